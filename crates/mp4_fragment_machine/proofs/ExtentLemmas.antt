@@ -20,8 +20,8 @@ use Rattle.mp4_grammar.specs.Meanings.{Meaning}
 use Rattle.mp4_recut.specs.Operations.{number_in, operation_meaning}
 use Rattle.mp4_recut.specs.declared.operation.Operation.{Operation}
 use Rattle.mp4_fragment_machine.specs.Places.{Untouched, claim_of, continuation_at}
-use Rattle.mp4_fragment_machine.specs.States.{IsCounted, IsState, bound_after, bound_in, claimed_in, in_extent, in_mdat, most_counted, samples_of, tracks_after}
-use Rattle.mp4_fragment_machine.specs.Implementation.Steps.{CanStep, GoesTo, at_state, ledger_alone}
+use Rattle.mp4_fragment_machine.specs.States.{IsCounted, bound_after, bound_in, claimed_in, in_extent, in_mdat, most_counted, samples_of, tracks_after}
+use Rattle.mp4_fragment_machine.specs.Implementation.Steps.{CanStep, GoesTo, IsIn, at_state, ledger_alone}
 use Rattle.mp4_fragment_machine.specs.declared.state.Carried.{Carried}
 use Rattle.mp4_fragment_machine.specs.declared.counter.Counter.{Counter}
 use Rattle.mp4_fragment_machine.specs.declared.pending_moof.PendingMoof.{PendingMoof}
@@ -77,7 +77,7 @@ Refuses-far_in meaning o o' at kind tracks number left own (extents.Open needed)
     Refuses-far (reads_in meaning) (λ end. context end tracks number) own o at kind o' left (extents.Open needed) x more is m far
 
 -- the machine stays in the body: so much less of it is left
-pub GoesTo-passed : (u : Untouched) (a : Account) (k : Carried) (b : Body) (w : Option PendingMoof) (n : ℕ) (input : List ℕ) → IsState k.tracks k.header_bytes (states.Body b w) → CanStep k a (states.Body b w) → 0 < n → n ≤ b.left → n ≤ length input → IsLeft (b.left - n) (extent_after n b.extent)
+pub GoesTo-passed : (u : Untouched) (a : Account) (k : Carried) (b : Body) (w : Option PendingMoof) (n : ℕ) (input : List ℕ) → IsIn k (states.Body b w) → CanStep k a (states.Body b w) → 0 < n → n ≤ b.left → n ≤ length input → IsLeft (b.left - n) (extent_after n b.extent)
     → (0 < n) × (n ≤ length input) × GoesTo (ledger_alone u a a) k k (at_state k (states.Body b w)) (take n input) (states.Body (after_bytes n b) w)
 GoesTo-passed u a k b w n input is can some few within left =
     let number = number_in k.operation k.counter.tally in

@@ -14,7 +14,7 @@ use Rattle.mp4_fragment_machine.proofs.QuietLemmas.{at-place, quiet, reached-mos
 -- where a step goes a machine may be fed more
 pub fed : (l : Borrowed) (old new : Carried) (from to : State) (input : List ℕ) (n : ℕ) → (0 < n) × (n ≤ length input) × GoesTo l old new (at_state old from) (take n input) to → HasFed (change_of l old new) (seen old from) (seen new to) input n
 fed l old new from to input n taken =
-    let is = at-place (number_in new.operation new.counter.tally) new.tracks new.header_bytes to taken.2.state in
+    let is = at-place new.operation (number_in new.operation new.counter.tally) new.tracks new.header_bytes to taken.2.state in
     record {
       some = taken.0;
       most = taken.1;

@@ -18,6 +18,8 @@ use Rattle.mp4_grammar.specs.Meanings.{Meaning}
 use Rattle.mp4_fragment_machine.specs.Places.{InBody, InHeader, InBuffered, InMdatHeader, InOpenBody, IsPlace, Place, continuation_at, reached_of, reads_at}
 use Rattle.mp4_recut.proofs.MediaLemmas.{output_from-quiet}
 use Rattle.mp4_recut.specs.Media.{output_from}
+use Rattle.mp4_recut.specs.declared.operation.Operation.{Operation}
+use Rattle.mp4_recut.specs.declared.operation.Operation.TheVariants as operations
 use Rattle.mp4_fragment_machine.specs.States.{IsState, claimed_in, in_extent, number_after, place_of, position_in, tracks_after}
 use Rattle.mp4_fragment_machine.specs.declared.state.State.{State}
 use Rattle.mp4_fragment_machine.specs.declared.state.State.TheVariants as states
@@ -86,14 +88,15 @@ in-place : (emit : List ℕ → Effects) (at : ℕ) (kind : FourCc) (tracks : Op
 in-place emit at kind tracks number left own (extents.Sized next) i none = (i.more, i.within, i.near, none)
 in-place emit at kind tracks number left own (extents.Open needed) i none = (i.within, none)
 
-pub at-place : (number : ℕ) (tracks : Option (List Track)) (header_bytes : List ℕ) (s : State) → IsState tracks header_bytes s → IsPlace (place_of number tracks header_bytes s)
-at-place number tracks header_bytes (states.Header at) i = i
-at-place number tracks header_bytes (states.Buffering h) i = (i.1, i.2)
-at-place number tracks header_bytes (states.MdatHeader w) i = (i.0, omega (arith, i.1.size, i.1.near))
-at-place number tracks header_bytes (states.Body b w) i = in-place (λ _. no_effects) b.at b.kind (tracks_after tracks w) number b.left (claimed_in tracks w) b.extent i.1 refl
-at-place number tracks header_bytes (states.Copied b) i = in-place (λ x. says x) b.at b.kind tracks number b.left (table_of tracks) b.extent i.1 refl
-at-place number tracks header_bytes (states.Media r) i =
-    in-place (output_from (position_in tracks r)) r.body.at r.body.kind (tracks_after tracks (Some r.pending_moof)) (number_after tracks r) r.body.left (claimed_in tracks (Some r.pending_moof)) r.body.extent i.2.body (output_from-quiet (position_in tracks r) i.2.media.no_head_ready)
+pub at-place : (operation : Operation) (number : ℕ) (tracks : Option (List Track)) (header_bytes : List ℕ) (s : State) → IsState operation number tracks header_bytes s → IsPlace (place_of operation number tracks header_bytes s)
+at-place operation number tracks header_bytes (states.Header at) i = i
+at-place operation number tracks header_bytes (states.Buffering h) i = (i.1, i.2)
+at-place operation number tracks header_bytes (states.MdatHeader w) i = (i.0, omega (arith, i.1.size, i.1.near))
+at-place operation number tracks header_bytes (states.Body b w) i = in-place (λ _. no_effects) b.at b.kind (tracks_after tracks w) number b.left (claimed_in tracks w) b.extent i.1 refl
+at-place operation number tracks header_bytes (states.Copied b) i = in-place (λ x. says x) b.at b.kind tracks number b.left (table_of tracks) b.extent i.1 refl
+at-place (operations.List command) number tracks header_bytes (states.Media r) i = absurd i.2
+at-place (operations.Split cut) number tracks header_bytes (states.Media r) i =
+    in-place (output_from (position_in cut number tracks r)) r.body.at r.body.kind (tracks_after tracks (Some r.pending_moof)) (number_after (operations.Split cut) number tracks r) r.body.left (claimed_in tracks (Some r.pending_moof)) r.body.extent i.2.body (output_from-quiet (position_in cut number tracks r) i.2.media.no_head_ready)
 
 -- no place is far past the longest stream
 pub reached-most : (p : Place) → IsPlace p → reached_of p ≤ 2 ^ 62 + 31

@@ -17,6 +17,7 @@ use Rattle.mp4_recut.specs.Cursors.{fragments_left}
 use Rattle.mp4_recut.specs.Media.{NoHeadIsReady, Rises, output_from, media_position}
 use Rattle.mp4_recut.specs.Splitting.{splitting}
 use Rattle.mp4_recut.specs.declared.media.Media.{Media}
+use Rattle.mp4_recut.specs.declared.operation.Operation.TheVariants as operations
 use Rattle.mp4_fragment_machine.specs.Places.{InBody, InHeader, InOpenBody, Place, continuation_at}
 use Rattle.mp4_fragment_machine.proofs.MdatHeaderLemmas.{claimed_after}
 use Rattle.mp4_fragment_machine.proofs.RecutLemmas.{GoesOn-recut_over}
@@ -56,11 +57,11 @@ module _ (cut : Cut) (w : PendingMoof) (tracks : List Track) (number n : ℕ) (m
 
   -- the state there, by how many bytes of the mdat are needed
   abbrev pub begun_media : ℕ → Size → Recutting
-  begun_media needed size = record { cut = cut; number = n; body = record { at = at; kind = h.kind; left = left_of at h size; extent = extent_of at needed size }; media = m; pending_moof = w }
+  begun_media needed size = record { body = record { at = at; kind = h.kind; left = left_of at h size; extent = extent_of at needed size }; media = m; pending_moof = w }
 
   -- in an mdat that states its size
   media_begins : (s needed : ℕ) → h.header_len ≤ s → n + length (fragments_left cut (moof_in w) tracks n m.later) ≡ (splitting cut).numbered (recut_fragment w tracks number h)
-      → begun_at (Exact s) ≡ place_of n (Some tracks) [] (states.Media (begun_media needed (Exact s)))
+      → begun_at (Exact s) ≡ place_of (operations.Split cut) n (Some tracks) [] (states.Media (begun_media needed (Exact s)))
   media_begins s needed room e =
       let start : at + h.header_len ≡ at + s - (s - h.header_len) = omega (arith, room) in
       ap (λ k. InBody (output_from (media_position cut (moof_in w) tracks k n m)) at h.kind (context (at + s) (Some ends) ((splitting cut).numbered (recut_fragment w tracks number h))) (s - h.header_len) own) start
@@ -69,7 +70,7 @@ module _ (cut : Cut) (w : PendingMoof) (tracks : List Track) (number n : ℕ) (m
   -- in one without a payload: it is done
   pub media_over : (s : ℕ) (size : Size) (ts : List Track) (o o' : Environment) → size ≡ Exact s → s ≤ h.header_len → (splitting cut).numbered (recut_fragment w tracks number h) ≡ n → ts ≡ ends
       → NoHeadIsReady (media_position cut (moof_in w) tracks (at + h.header_len) n m) → Moves o o' own (64 * length ends) no_effects
-      → GoesOn o o' (continuation_at (splitting cut) (begun_at size)) [] (continuation_at (splitting cut) (place_of n (Some ts) [] (states.Header (at + s))))
+      → GoesOn o o' (continuation_at (splitting cut) (begun_at size)) [] (continuation_at (splitting cut) (place_of (operations.Split cut) n (Some ts) [] (states.Header (at + s))))
   media_over s size ts o o' is none e same all moves =
       let meaning = splitting cut in
       let goes : GoesOn o o' (continuation_at meaning (begun_at (Exact s))) [] (continuation_at meaning (InHeader (context (at + s) (Some ends) ((splitting cut).numbered (recut_fragment w tracks number h))) [])) =
@@ -80,7 +81,7 @@ module _ (cut : Cut) (w : PendingMoof) (tracks : List Track) (number n : ℕ) (m
 
   -- within a body that goes to the end of the stream
   open_begins : (needed : ℕ) → at + h.header_len ≤ longest → needed ≡ needed_in (recut_fragment w tracks number h)
-      → begun_at ToEnd ≡ place_of n (Some tracks) [] (states.Media (begun_media needed ToEnd))
+      → begun_at ToEnd ≡ place_of (operations.Split cut) n (Some tracks) [] (states.Media (begun_media needed ToEnd))
   open_begins needed near e =
       let start : at + h.header_len ≡ longest - (longest - (at + h.header_len)) = omega (arith, near) in
       ap (λ k. InOpenBody (output_from (media_position cut (moof_in w) tracks k n m)) at h.kind (needed_in (recut_fragment w tracks number h)) (longest - (at + h.header_len)) own) start
@@ -88,7 +89,7 @@ module _ (cut : Cut) (w : PendingMoof) (tracks : List Track) (number n : ℕ) (m
 
   -- by the stated size
   pub recut_begins : (needed : ℕ) (size : Size) → HasBytes at h size → n + length (fragments_left cut (moof_in w) tracks n m.later) ≡ (splitting cut).numbered (recut_fragment w tracks number h) → needed ≡ needed_in (recut_fragment w tracks number h)
-      → begun_at size ≡ place_of n (Some tracks) [] (states.Media (begun_media needed size))
+      → begun_at size ≡ place_of (operations.Split cut) n (Some tracks) [] (states.Media (begun_media needed size))
   recut_begins needed (Exact s) some numbers e = media_begins s needed (omega (arith, some.0)) numbers
   recut_begins needed ToEnd near numbers e = open_begins needed near e
 

@@ -78,13 +78,19 @@ kept_by (states.Body b w) = taken_by w
 kept_by (states.Copied b) = 0
 kept_by (states.Media r) = taken_by (Some r.pending_moof)
 
--- number of the next output fragment after an mdat that is recut: all its pieces are written
-abbrev pub number_after : Option (List Track) → Recutting → ℕ
-number_after tracks r = r.number + length (fragments_left r.cut (moof_in r.pending_moof) (known tracks) r.number r.media.later)
+-- position of the media of an mdat that is recut: the next output fragment has this number
+abbrev pub position_in : Cut → (number : ℕ) → Option (List Track) → Recutting → MediaPosition
+position_in cut number tracks r = media_position cut (moof_in r.pending_moof) (known tracks) (latest_end r.body.extent - r.body.left) number r.media
 
--- position of its media
-abbrev pub position_in : Option (List Track) → Recutting → MediaPosition
-position_in tracks r = media_position r.cut (moof_in r.pending_moof) (known tracks) (latest_end r.body.extent - r.body.left) r.number r.media
+-- effects of its bytes: only `split` recuts media
+abbrev pub recut_effects : Operation → (number : ℕ) → Option (List Track) → Recutting → List ℕ → Effects
+recut_effects (operations.List command) number tracks r = λ _. no_effects
+recut_effects (operations.Split cut) number tracks r = output_from (position_in cut number tracks r)
+
+-- number of the next output fragment after it: all its pieces are written
+abbrev pub number_after : Operation → (number : ℕ) → Option (List Track) → Recutting → ℕ
+number_after (operations.List command) number tracks r = number
+number_after (operations.Split cut) number tracks r = number + length (fragments_left cut (moof_in r.pending_moof) (known tracks) number r.media.later)
 
 -- place in a body with the effects `emit`, by its extent: the tracks and the number of the next output fragment after it,
 -- how many bytes are to come, and how many are claimed meanwhile
@@ -95,14 +101,14 @@ in_extent emit at kind tracks number left own (extents.Open needed) = InOpenBody
 abbrev pub in_body : (emit : List ℕ → Effects) → Option (List Track) → (number own : ℕ) → Body → Place
 in_body emit tracks number own b = in_extent emit b.at b.kind tracks number b.left own b.extent
 
--- place of a machine with these tracks and these bytes of a header: the next output fragment has this number
-abbrev pub place_of : ℕ → Option (List Track) → List ℕ → State → Place
-place_of number tracks header_bytes (states.Header at) = InHeader (context at tracks number) header_bytes
-place_of number tracks header_bytes (states.Buffering h) = InBuffered (context h.at tracks number) h.kind h.size h.bytes
-place_of number tracks header_bytes (states.MdatHeader w) = InMdatHeader (context w.moof.at tracks number) (known tracks) w.moof.bytes header_bytes
-place_of number tracks header_bytes (states.Body b w) = in_body (λ _. no_effects) (tracks_after tracks w) number (claimed_in tracks w) b
-place_of number tracks header_bytes (states.Copied b) = in_body (λ x. says x) tracks number (table_of tracks) b
-place_of number tracks header_bytes (states.Media r) = in_body (output_from (position_in tracks r)) (tracks_after tracks (Some r.pending_moof)) (number_after tracks r) (claimed_in tracks (Some r.pending_moof)) r.body
+-- place of a machine with this operation, these tracks and these bytes of a header: the next output fragment has this number
+abbrev pub place_of : Operation → (number : ℕ) → Option (List Track) → List ℕ → State → Place
+place_of operation number tracks header_bytes (states.Header at) = InHeader (context at tracks number) header_bytes
+place_of operation number tracks header_bytes (states.Buffering h) = InBuffered (context h.at tracks number) h.kind h.size h.bytes
+place_of operation number tracks header_bytes (states.MdatHeader w) = InMdatHeader (context w.moof.at tracks number) (known tracks) w.moof.bytes header_bytes
+place_of operation number tracks header_bytes (states.Body b w) = in_body (λ _. no_effects) (tracks_after tracks w) number (claimed_in tracks w) b
+place_of operation number tracks header_bytes (states.Copied b) = in_body (λ x. says x) tracks number (table_of tracks) b
+place_of operation number tracks header_bytes (states.Media r) = in_body (recut_effects operation number tracks r) (tracks_after tracks (Some r.pending_moof)) (number_after operation number tracks r) (claimed_in tracks (Some r.pending_moof)) r.body
 
 -- ---- what holds of it
 
@@ -140,14 +146,19 @@ pub record IsRecut (cut : Cut) (tracks : List Track) (number left : ℕ) (e : Ex
   pub media : AreMediaOf cut tracks w number m
   pub rises : RisesIn e (media_position cut (moof_in w) tracks (latest_end e - left) number m)
 
--- only in a header there are bytes of one
-abbrev pub IsState : Option (List Track) → List ℕ → State → Type 0
-IsState tracks header_bytes (states.Header at) = (length header_bytes < need header_bytes) × (at ≤ longest)
-IsState tracks header_bytes (states.Buffering h) = (header_bytes ≡ []) × (length h.bytes < h.size) × (h.at + h.size ≤ longest) × Begins h.size h.bytes
-IsState tracks header_bytes (states.MdatHeader w) = (length header_bytes < need header_bytes) × IsPendingMoof tracks w
-IsState tracks header_bytes (states.Body b w) = (header_bytes ≡ []) × IsLeft b.left b.extent × MayBePending tracks w
-IsState tracks header_bytes (states.Copied b) = (header_bytes ≡ []) × IsLeft b.left b.extent
-IsState tracks header_bytes (states.Media r) = (header_bytes ≡ []) × (tracks ≡ Some (known tracks)) × IsRecut r.cut (known tracks) r.number r.body.left r.body.extent r.media r.pending_moof
+-- only `split` recuts media
+abbrev pub IsRecutBy : Operation → (number : ℕ) → Option (List Track) → Recutting → Type 0
+IsRecutBy (operations.List command) number tracks r = ⊥
+IsRecutBy (operations.Split cut) number tracks r = IsRecut cut (known tracks) number r.body.left r.body.extent r.media r.pending_moof
+
+-- only in a header there are bytes of one; the next output fragment has this number
+abbrev pub IsState : Operation → (number : ℕ) → Option (List Track) → List ℕ → State → Type 0
+IsState operation number tracks header_bytes (states.Header at) = (length header_bytes < need header_bytes) × (at ≤ longest)
+IsState operation number tracks header_bytes (states.Buffering h) = (header_bytes ≡ []) × (length h.bytes < h.size) × (h.at + h.size ≤ longest) × Begins h.size h.bytes
+IsState operation number tracks header_bytes (states.MdatHeader w) = (length header_bytes < need header_bytes) × IsPendingMoof tracks w
+IsState operation number tracks header_bytes (states.Body b w) = (header_bytes ≡ []) × IsLeft b.left b.extent × MayBePending tracks w
+IsState operation number tracks header_bytes (states.Copied b) = (header_bytes ≡ []) × IsLeft b.left b.extent
+IsState operation number tracks header_bytes (states.Media r) = (header_bytes ≡ []) × (tracks ≡ Some (known tracks)) × IsRecutBy operation number tracks r
 
 -- ---- the fragment of the pending moof
 
@@ -241,14 +252,14 @@ pub record IsCounted (operation : Operation) (c : Counter) (bound unlisted unset
   pub few : c.steps.rows + listed_most operation unlisted + unsettled ≤ reads_of operation * c.tally.inspected
   pub far : bound ≤ most_counted
 
--- by the state; media are recut only by `split`, and their output fragments are numbered on from what was counted
+-- by the state
 abbrev pub HasCounted : Operation → State → Counter → Type 0
 HasCounted operation (states.Header at) c = IsCounted operation c at 0 0
 HasCounted operation (states.Buffering h) c = IsCounted operation c h.at 0 0
 HasCounted operation (states.MdatHeader w) c = IsCounted operation c (w.moof.at + w.moof.size) (moof_samples (moof_in w)) (moof_samples (moof_in w))
 HasCounted operation (states.Body b w) c = IsCounted operation c (bound_in b.extent) 0 (samples_of w)
 HasCounted operation (states.Copied b) c = IsCounted operation c (bound_in b.extent) 0 0
-HasCounted operation (states.Media r) c = IsCounted operation c (bound_in r.body.extent) 0 (moof_samples (moof_in r.pending_moof)) × (operation ≡ operations.Split r.cut) × (r.number ≡ c.tally.fragments + 1)
+HasCounted operation (states.Media r) c = IsCounted operation c (bound_in r.body.extent) 0 (moof_samples (moof_in r.pending_moof))
 
 -- after a stop
 abbrev pub HasStopped : Operation → Counter → Type 0
@@ -280,14 +291,14 @@ begun operation = record {
 
 -- its place
 abbrev pub place_in : Progress → Place
-place_in p = place_of (number_in p.operation p.counter.tally) p.tracks p.header_bytes p.state
+place_in p = place_of p.operation (number_in p.operation p.counter.tally) p.tracks p.header_bytes p.state
 
 abbrev pub continuation_in : Progress → Continuation
 continuation_in p = continuation_at (operation_meaning p.operation) (place_in p)
 
 -- its counts are bounded by its place in the stream
 abbrev pub IsMachine : Operation → Option (List Track) → List ℕ → State → Counter → Type 0
-IsMachine operation tracks header_bytes s c = IsState tracks header_bytes s × HasCounted operation s c
+IsMachine operation tracks header_bytes s c = IsState operation (number_in operation c.tally) tracks header_bytes s × HasCounted operation s c
 
 -- ---- what it lists
 

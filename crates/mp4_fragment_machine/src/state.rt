@@ -11,7 +11,6 @@ use crate::counter::Counter;
 use crate::pending_moof::{PendingMoof, back};
 use mp4_box::HeaderReader;
 use mp4_box::types::MDAT;
-use mp4_cut::Cut;
 use mp4_ends::Sink;
 use mp4_init::TrackList;
 use mp4_ledger::Ledger;
@@ -20,11 +19,8 @@ use mp4_recut::Operation;
 use mp4_recut::media::Media;
 use std::mem::replace;
 
-/// The body of an mdat that is recut, at whose end its moof is done; `number` is the sequence number of the next output
-/// fragment.
+/// The body of an mdat that is recut, at whose end its moof is done.
 pub(crate) struct Recutting {
-    pub(crate) cut: Cut,
-    pub(crate) number: u64,
     pub(crate) body: Body,
     pub(crate) media: Media,
     pub(crate) pending_moof: PendingMoof,
@@ -85,8 +81,6 @@ pub(crate) fn leave_media(current: &mut State, at: u64) -> PendingMoof
     match replace(current, State::Header { at }) {
         State::Media(
             Recutting {
-                cut: _,
-                number: _,
                 body: _,
                 media: _,
                 pending_moof,
@@ -120,8 +114,6 @@ pub(crate) fn back_state(state: State, ledger: &mut Ledger)
         State::Copied(_) => {}
         State::Media(
             Recutting {
-                cut: _,
-                number: _,
                 body: _,
                 media: _,
                 pending_moof,

@@ -80,7 +80,11 @@ change_stopped l old new = record { before = environment_before l old; after = e
 
 -- in this state
 abbrev pub at_state : Carried → State → Place
-at_state k s = place_of (number_in k.operation k.counter.tally) k.tracks k.header_bytes s
+at_state k s = place_of k.operation (number_in k.operation k.counter.tally) k.tracks k.header_bytes s
+
+-- and what holds of it there
+abbrev pub IsIn : Carried → State → Type 0
+IsIn k s = IsState k.operation (number_in k.operation k.counter.tally) k.tracks k.header_bytes s
 
 -- the same with these bytes of a header
 abbrev pub with_head : List ℕ → Carried → Carried
@@ -94,7 +98,7 @@ pub record CanStep (k : Carried) (account : Account) (s : State) : Type 0 where
 -- bytes of an input may be taken in this state
 pub record MayTake (input : List ℕ) (k : Carried) (account : Account) (s : State) : Type 0 where
   pub some : 0 < length input
-  pub state : IsState k.tracks k.header_bytes s
+  pub state : IsIn k s
   pub can : CanStep k account s
 
 -- a box at an offset may be passed over, with this header in these bytes
@@ -120,7 +124,7 @@ pub record MayBeginFragment (o : Operation) (k : Carried) (account : Account) (p
 pub record GoesTo (l : Borrowed) (old new : Carried) (from : Place) (bytes : List ℕ) (s : State) : Type 0 where
   pub step : reading.GoesTo (change_of l old new) (continuation_at (operation_meaning old.operation) from) bytes (continuation_at (operation_meaning new.operation) (at_state new s))
   pub operation : new.operation ≡ old.operation
-  pub state : IsState new.tracks new.header_bytes s
+  pub state : IsIn new s
   pub counted : HasCounted new.operation s new.counter
 
 -- it stops at the input: everything but the track table has been given back

@@ -211,22 +211,20 @@ fn enter_split(
     at: u64,
     header: &Header,
     split: Split,
-    cut: Cut,
     carried: &mut Carried,
     ledger: &mut Ledger,
 ) -> State
     requires room { HasRoom header.now.size header.now.header_len }
     requires near { least_end at header.now header.now.size ≤ longest }
     requires at { at ≡ split.pending_moof.moof.at + length split.pending_moof.moof.bytes }
-    requires operation { carried.old.operation ≡ operations.Split cut }
     requires empty { carried.old.header_bytes ≡ [] }
     requires pending_moof { IsPendingMoof carried.old.tracks split.pending_moof }
     requires claim { claimed_in carried.old.tracks (Some split.pending_moof) ≤ ledger.old.live }
-    requires counted { IsCounted (operations.Split cut) carried.old.counter (bound_after at header.now.size)
+    requires counted { IsCounted carried.old.operation carried.old.counter (bound_after at header.now.size)
         0 (moof_samples (moof_in split.pending_moof)) }
-    ensures { (number : ℕ) (u : Untouched) → EntersMedia cut (recut_fragment split.pending_moof
-        (known carried.old.tracks) number header.now) header.now split
-        (ledger_alone u ledger.old ledger.new) carried.old carried.new result }
+    ensures { (cut : Cut) (number : ℕ) (u : Untouched) → carried.old.operation ≡ operations.Split cut →
+        EntersMedia cut (recut_fragment split.pending_moof (known carried.old.tracks) number header.now)
+        header.now split (ledger_alone u ledger.old ledger.new) carried.old carried.new result }
 {
     let Split {
         pending_moof,
@@ -236,15 +234,12 @@ fn enter_split(
     let Some(list) = &mut carried.tracks else {
         unreachable!();
     };
-    let number = carried.counter.tally.fragments + 1;
     match body_of(at, header, needed) {
         AnyBody::Empty { next } => {
             end_fragment(pending_moof, list, ledger, &mut carried.counter);
             State::Header { at: next }
         }
         AnyBody::Bytes(body) => State::Media(Recutting {
-            cut,
-            number,
             body,
             media,
             pending_moof,
@@ -286,7 +281,7 @@ pub(crate) fn begin_media<W: Sink>(
         out,
         w,
     ) {
-        Ok(split) => Ok(enter_split(at, header, split, cut, carried, ledger)),
+        Ok(split) => Ok(enter_split(at, header, split, carried, ledger)),
         Err(stop) => Err(stop),
     }
 }

@@ -1,11 +1,13 @@
 //! Takes the header after a moof, and begins the fragment of the moof.
 
-ghost use Rattle.std.specs.Prelude.{◌≡◌, [], ℕ, List, Ok, Option, Some};
+ghost use Rattle.std.specs.Prelude.{◌≡◌, ◌<◌, [], ℕ, List, Ok, Option, Some, length};
+ghost use Rattle.mp4_box.specs.Headers.{need};
 ghost use Rattle.mp4_init.specs.declared.table.Track.{Track};
 ghost use Rattle.mp4_machine.specs.Readings.{fault_in};
+ghost use Rattle.mp4_grammar.specs.Contexts.{context};
 ghost use Rattle.mp4_grammar.specs.Meanings.{Meaning};
-ghost use Rattle.mp4_fragment_machine.specs.Places.{continuation_at};
-ghost use Rattle.mp4_fragment_machine.specs.States.{IsPendingMoof, IsState, place_of};
+ghost use Rattle.mp4_fragment_machine.specs.Places.{InMdatHeader, continuation_at};
+ghost use Rattle.mp4_fragment_machine.specs.States.{IsPendingMoof, known};
 ghost use Rattle.mp4_fragment_machine.specs.Implementation.Steps.{Consumes, MayTake, borrowed};
 ghost use Rattle.mp4_fragment_machine.specs.declared.state.State.TheVariants as states;
 
@@ -82,10 +84,11 @@ fn wait_on(pending_moof: PendingMoof, count: usize) -> Result<Taken, Stop>
 
 /// The stream ended after the pending moof and these bytes of a header.
 pub(crate) fn unfollowed(pending_moof: &PendingMoof, header_bytes: &HeaderReader) -> Fault
-    requires { (tracks : Option (List Track)) × IsState tracks header_bytes.now (states.MdatHeader pending_moof.now) }
+    requires { (tracks : Option (List Track)) × (length header_bytes.now < need header_bytes.now) ×
+        IsPendingMoof tracks pending_moof.now }
     ensures { (meaning : Meaning) (number : ℕ) (tracks : Option (List Track)) → IsPendingMoof tracks pending_moof.now →
-        fault_in ((continuation_at meaning (place_of number tracks header_bytes.now
-        (states.MdatHeader pending_moof.now))).reads []).outcome ≡ Some result }
+        fault_in ((continuation_at meaning (InMdatHeader (context pending_moof.now.moof.at tracks number)
+        (known tracks) pending_moof.now.moof.bytes header_bytes.now)).reads []).outcome ≡ Some result }
 {
     if header_bytes.is_empty() {
         return Fault {

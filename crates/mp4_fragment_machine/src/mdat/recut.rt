@@ -3,19 +3,21 @@
 ghost use Rattle.std.specs.Prelude.{◌≡◌, ◌+◌, ◌-◌, ◌<◌, ◌≤◌, length};
 ghost use Rattle.mp4_machine.specs.Bodies.{latest_end, longest};
 ghost use Rattle.mp4_machine.specs.Ends.{sent};
-ghost use Rattle.mp4_fragment_machine.specs.States.{AreMediaOf, IsState};
+ghost use Rattle.mp4_fragment_machine.specs.States.{AreMediaOf};
 ghost use Rattle.mp4_recut.specs.Media.{copy_taken};
 ghost use Rattle.mp4_fragment_machine.specs.Implementation.Media.{TakesMedia};
-ghost use Rattle.mp4_fragment_machine.specs.Implementation.Steps.{CanStep, ConsumesInPlace, borrowed};
+ghost use Rattle.mp4_fragment_machine.specs.Implementation.Steps.{CanStep, ConsumesInPlace, IsIn, borrowed};
 ghost use Rattle.mp4_fragment_machine.specs.declared.state.Recutting.{Recutting};
 ghost use Rattle.mp4_fragment_machine.specs.declared.state.State.TheVariants as states;
 
 use crate::mdat::end::end_fragment;
 use crate::state::{Carried, Recutting, State, leave_media, let_go};
+use mp4_cut::Cut;
 use mp4_ends::{Failed, Sink};
 use mp4_init::TrackList;
 use mp4_ledger::Ledger;
 use mp4_machine::{Block, Stop, Tally};
+use mp4_recut::Operation;
 use mp4_recut::media::{CutMoof, Media, copy_all_media};
 
 /// Takes bytes of an mdat that is recut from the front of the input: all that belong to the bytes that remain of it.
@@ -28,21 +30,21 @@ pub(crate) fn take_media<W: Sink>(
     recutting: &mut Recutting,
     input: &[u8],
     tracks: &TrackList,
+    cut: &Cut,
     tally: &mut Tally,
     out: &mut Block,
     w: &mut W,
 ) -> Result<usize, Failed>
     requires within { recutting.old.body.left ≤ latest_end recutting.old.body.extent }
     requires near { latest_end recutting.old.body.extent ≤ longest }
-    requires media { AreMediaOf recutting.old.cut tracks.now recutting.old.pending_moof
+    requires media { AreMediaOf cut.now tracks.now recutting.old.pending_moof
         (tally.old.fragments + 1) recutting.old.media }
-    ensures takes { TakesMedia recutting.old.cut tracks.now recutting.old.pending_moof
+    ensures takes { TakesMedia cut.now tracks.now recutting.old.pending_moof
         (sent W.contents W.has_failed w.old w.new) out.old out.new tally.old tally.new
         (latest_end recutting.old.body.extent - recutting.old.body.left) recutting.old.body.left
         recutting.old.media input.now (copy_taken recutting.new.media result) }
     ensures body { recutting.new.body ≡ recutting.old.body }
     ensures moof { recutting.new.pending_moof ≡ recutting.old.pending_moof }
-    ensures cut { recutting.new.cut ≡ recutting.old.cut }
 {
     let at = recutting.body.reached();
     let most = recutting.body.left.min(input.len() as u64);
@@ -54,7 +56,7 @@ pub(crate) fn take_media<W: Sink>(
         moof: &moof,
         runs: &pending_moof.runs,
         tracks,
-        cut: &recutting.cut,
+        cut,
     };
     match copy_all_media(at, media, front, &cut_moof, &mut tally.fragments, out, w) {
         Ok(()) => Ok(most as usize),
@@ -78,11 +80,14 @@ pub(crate) fn take_split<W: Sink>(
 ) -> Result<usize, Stop>
     requires some { 0 < length input.now }
     requires media { (r : Recutting) × (current.old ≡ states.Media r) }
-    requires state { IsState carried.old.tracks carried.old.header_bytes current.old }
+    requires state { IsIn carried.old current.old }
     requires can { CanStep carried.old ledger.old current.old }
     ensures { ConsumesInPlace (borrowed W.contents W.has_failed w.old w.new out.old out.new ledger.old ledger.new)
         carried.old carried.new current.old current.new input.now result }
 {
+    let Operation::Split(cut) = &carried.operation else {
+        unreachable!();
+    };
     let Some(list) = &mut carried.tracks else {
         unreachable!();
     };
@@ -95,7 +100,7 @@ pub(crate) fn take_split<W: Sink>(
         let_go(current, ledger);
         return Err(stop);
     }
-    let count = match take_media(recutting, input, list, tally, out, w) {
+    let count = match take_media(recutting, input, list, cut, tally, out, w) {
         Ok(count) => count,
         Err(Failed) => {
             let_go(current, ledger);
@@ -108,6 +113,5 @@ pub(crate) fn take_split<W: Sink>(
         end_fragment(leave_media(current, next), list, ledger, counter);
         return Ok(count);
     }
-    recutting.number = tally.fragments + 1;
     Ok(count)
 }

@@ -21,7 +21,7 @@ returns-in-Ok g c =
     let begun = c.in-Ok.ensures c.args.header_bytes.now c.requires.len c.requires.is in
     let split = c.in-Ok.split in
     let enters = λ (x : PendingMoof) (t : Option (List Track)). EntersMedia c.args.cut (recut_fragment x (known t) number c.args.header.now) c.args.header.now split (ledger_alone u c.begin_split.new.ledger c.enter_split.new.ledger) mid c.enter_split.new.carried c.enter_split.result in
-    let entered = subst (enters w) c.in-Some.is (subst (λ x. enters x carried.tracks) begun.same (c.enter_split.ensures number u)) in
+    let entered = subst (enters w) c.in-Some.is (subst (λ x. enters x carried.tracks) begun.same (c.enter_split.ensures c.args.cut number u c.requires.operation)) in
     rw (c.in-Some.is, c.requires.operation)
     (GoesTo-after (entered begun.split) can.claim c.requires.operation begun.unfailed begun.goes)
 

@@ -19,10 +19,9 @@ use Rattle.mp4_fragment_machine.proofs.StepLemmas.{no_head}
 use Rattle.mp4_fragment_machine.proofs.mdat.accept_recut.enter_split.Goals as goal
 
 pub returns-in-Empty : goal.returns-in-Empty
-returns-in-Empty c = λ number u split.
+returns-in-Empty c = λ cut number u operation split.
     let w = c.args.split.pending_moof in
     let m = c.args.split.media in
-    let cut = c.args.cut in
     let carried = c.args.carried.now in
     let list = c.in-Some.list in
     let h = c.args.header.now in
@@ -36,14 +35,14 @@ returns-in-Empty c = λ number u split.
     let o = environment u.written u.waiting c.args.ledger.now carried.counter.tally in
     let ends = settled list (moof_trafs (moof_in w) list) in
     let low = rw c.in-Some.is at c.requires.claim in
-    let counted = rw is at c.requires.counted in
+    let counted = rw (is, operation) at c.requires.counted in
     let ends_at : end_of (w.moof.at + length w.moof.bytes) h.size ≡ Some (at + size) = rw is (ap (λ k. Some (k + size)) (sym c.requires.at)) in
     let rises : Rises (at + size) (media_position cut (moof_in w) list (at + h.header_len) n m) = subst (λ k. Rises (at + size) (media_position cut (moof_in w) list (k + h.header_len) n m)) (sym c.requires.at) (begun.rises (at + size) ends_at) in
     let short : size ≤ h.header_len = omega (arith, all) in
     let none : ps ≡ [] = media.no_head_ready (rises-over (at + h.header_len) (at + size) m.copy_span.place m.copy_span.left ps rises (omega (arith, short))) in
     let ended = c.end_fragment.ensures in
     let table : 64 * length ends ≡ 64 * length list = ap (λ l. 64 * length l) (sym ended.tracks) ∙ ap (λ k. 64 * k) ended.len in
-    rw (c.in-Some.is, c.requires.operation, c.requires.empty, ended.tracks, ended.back, far) (record {
+    rw (c.in-Some.is, operation, c.requires.empty, ended.tracks, ended.back, far) (record {
       step = record {
         goes = rw ended.tally
             (begun_known cut w list number n m at h carried.tracks o _ _ c.in-Some.is c.requires.pending_moof c.requires.at (media_over cut w list number n m at h size h.size ends o _ is short (sym begun.numbers ∙ omega (arith, ap length none)) refl media.no_head_ready
@@ -57,11 +56,10 @@ returns-in-Empty c = λ number u split.
     })
 
 pub returns-in-Bytes : goal.returns-in-Bytes
-returns-in-Bytes c = λ number u split.
+returns-in-Bytes c = λ cut number u operation split.
     let w = c.args.split.pending_moof in
     let m = c.args.split.media in
     let needed = c.args.split.needed in
-    let cut = c.args.cut in
     let carried = c.args.carried.now in
     let ledger = c.args.ledger.now in
     let list = c.in-Some.list in
@@ -76,11 +74,11 @@ returns-in-Bytes c = λ number u split.
     let r = begun_media cut w list number n m at h needed h.size in
     let rises : (end : ℕ) → end_of at h.size ≡ Some end → Rises end (media_position cut (moof_in w) list (at + h.header_len) n m) =
     λ end e. subst (λ k. Rises end (media_position cut (moof_in w) list (k + h.header_len) n m)) (sym c.requires.at) (begun.rises end (subst (λ k. end_of k h.size ≡ Some end) c.requires.at e)) in
-    rw (c.in-Some.is, c.requires.operation, same) (record {
+    rw (c.in-Some.is, operation, same) (record {
       step = record {
         goes = begun_known cut w list number n m at h carried.tracks o o _ c.in-Some.is c.requires.pending_moof c.requires.at (GoesOn-same (splitting cut) o _ _ (recut_begins cut w list number n m at h needed h.size some begun.numbers is_split.needed));
         unfailed = refl;
-        claim = subst (λ k. k ≤ ledger.live) (sym (claim_in (output_from (position_in (Some list) r)) at h.kind (tracks_after (Some list) (Some w)) (number_after (Some list) r) (left_of at h h.size) (claimed_in (Some list) (Some w)) (extent_of at needed h.size))) low;
+        claim = subst (λ k. k ≤ ledger.live) (sym (claim_in (output_from (position_in cut n (Some list) r)) at h.kind (tracks_after (Some list) (Some w)) (number_after (operations.Split cut) n (Some list) r) (left_of at h h.size) (claimed_in (Some list) (Some w)) (extent_of at needed h.size))) low;
       };
       operation = refl;
       state = (
@@ -92,5 +90,5 @@ returns-in-Bytes c = λ number u split.
           rises = recut_rises cut w list number n m at h needed h.size some rises;
         },
       );
-      counted = (subst (λ b. IsCounted (operations.Split cut) carried.counter b 0 (moof_samples (moof_in w))) (bound_in-begun at needed h.size) c.requires.counted, refl, refl);
+      counted = subst (λ b. IsCounted (operations.Split cut) carried.counter b 0 (moof_samples (moof_in w))) (bound_in-begun at needed h.size) (rw operation at c.requires.counted);
     })

@@ -17,7 +17,6 @@ pub returns : goal.returns
 returns c = λ meaning number tracks i.
     let w = c.args.pending_moof.now in
     let at : w.moof.at + length w.moof.bytes ≡ c.offset-2.result + c.size.result = omega (arith, i.size, c.offset-2.ensures.at, c.size.ensures) in
-    let (known_tracks, is) = c.requires in
     rw (c.truncated.ensures, c.kind.ensures.computed)
-    (ends-after meaning (context w.moof.at tracks number) (known tracks) w.moof.bytes c.args.header_bytes.now (some_bytes c.args.header_bytes.now (λ e. false≢true (c.if-is_empty.ensures.1 e))) is.0
+    (ends-after meaning (context w.moof.at tracks number) (known tracks) w.moof.bytes c.args.header_bytes.now (some_bytes c.args.header_bytes.now (λ e. false≢true (c.if-is_empty.ensures.1 e))) c.requires.1
     ∙ ap (λ n. Some (fault Truncated (kind_of c.args.header_bytes.now) n)) at)
