@@ -40,7 +40,7 @@ report_send = search (sendable, crosses) depth 40 fits 20000
 
 -- by their fields, in order
 recutting_fields : AllSend (fields recutting.the_type)
-recutting_fields = (search (sendable, crosses) depth 40 fits 50000, (search (sendable, crosses) depth 40 fits 50000, (search (sendable, crosses) depth 40 fits 50000, (search (sendable, crosses) depth 40 fits 50000, (search (sendable, crosses) depth 40 fits 50000, tt)))))
+recutting_fields = (search (sendable, crosses) depth 40 fits 50000, (search (sendable, crosses) depth 40 fits 50000, (search (sendable, crosses) depth 40 fits 50000, tt)))
 
 carried_fields : AllSend (fields carried.the_type)
 carried_fields = (search (sendable, crosses) depth 40 fits 50000, (search (sendable, crosses) depth 40 fits 50000, (search (sendable, crosses) depth 40 fits 50000, (search (sendable, crosses) depth 40 fits 50000, tt))))
