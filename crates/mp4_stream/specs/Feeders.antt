@@ -57,15 +57,19 @@ shown p = record { continuation = continuation_in p.machine; counted = p.machine
 abbrev pub sums_of : Feeding → Sums
 sums_of p = machines.sums_of (shown p)
 
+-- what a machine for an operation has counted, where so many fragments are whole in its output, and this was the most that was claimed
+abbrev pub totals_by : Operation → Progress → (whole peak : ℕ) → Totals
+totals_by operation machine whole peak = record {
+  fragments = fragments_of operation machine.counter.tally.fragments whole;
+  samples = machine.counter.tally.samples;
+  media_bytes = machine.counter.tally.media_bytes;
+  rows_read = machine.counter.steps.rows;
+  peak = peak;
+}
+
 -- its totals
 abbrev pub totals_of : Feeding → Totals
-totals_of p = record {
-  fragments = fragments_of p.operation p.machine.counter.tally.fragments p.fragments;
-  samples = p.machine.counter.tally.samples;
-  media_bytes = p.machine.counter.tally.media_bytes;
-  rows_read = p.machine.counter.steps.rows;
-  peak = p.peak;
-}
+totals_of p = totals_by p.operation p.machine p.fragments p.peak
 
 -- after the bytes b of a stream, in whatever inputs they came: its machine is
 abbrev pub IsAfter : Feeding → List ℕ → Type 0

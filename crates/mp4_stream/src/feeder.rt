@@ -82,19 +82,7 @@ impl Feeder {
         ensures few { result.rows_read ≤
             reads_of self.now.operation * self.now.machine.counter.tally.inspected }
     {
-        let machine = self.fed.machine();
-        let tally = machine.tally();
-        let fragments = match machine.operation() {
-            Operation::List(_) => tally.fragments,
-            Operation::Split(_) => self.fed.fragments(),
-        };
-        Totals {
-            fragments,
-            samples: tally.samples,
-            media_bytes: tally.media_bytes,
-            rows_read: machine.rows_read(),
-            peak: self.fed.peak(),
-        }
+        Totals::of(self.fed.machine(), self.fed.fragments(), self.fed.peak())
     }
 
     /// Takes the next input of the stream, and writes all output that the bytes so far determine. An

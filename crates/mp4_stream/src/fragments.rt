@@ -154,20 +154,7 @@ fn run_operation<R: Source, W: Sink>(
     let mut machine = FragmentMachine::new(operation);
     let mut whole = 0;
     let answer = read_stream(r, w, ledger, copy, &mut machine, &mut whole);
-    let tally = machine.tally();
-    let rows_read = machine.rows_read();
+    *totals = Totals::of(&machine, whole, ledger.peak());
     machine.give_up(ledger);
-    // Where a stream is cut, those count that are whole in the output.
-    let fragments = match operation {
-        Operation::List(_) => tally.fragments,
-        Operation::Split(_) => whole,
-    };
-    *totals = Totals {
-        fragments,
-        samples: tally.samples,
-        media_bytes: tally.media_bytes,
-        rows_read,
-        peak: ledger.peak(),
-    };
     answer
 }

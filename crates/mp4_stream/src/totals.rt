@@ -1,6 +1,11 @@
 //! What is counted of a stream.
 
-ghost use Rattle.std.specs.Prelude.{◌≡◌};
+ghost use Rattle.std.specs.Prelude.{◌≡◌, ◌+◌, ◌*◌, ◌≤◌};
+ghost use Rattle.mp4_fragment_machine.specs.States.{listed_by, reads_of};
+ghost use Rattle.mp4_stream.specs.Feeders.{totals_by};
+
+use mp4_fragment_machine::FragmentMachine;
+use mp4_recut::Operation;
 
 /// What was counted of a stream so far. A listing of boxes counts no samples: all but its peak are 0.
 #[derive(Clone, Copy, Debug, PartialEq, Eq)]
@@ -30,6 +35,31 @@ impl Totals {
             media_bytes: 0,
             rows_read: 0,
             peak: 0,
+        }
+    }
+
+    /// What a machine has counted, where so many fragments are whole in its output, and this was the most that was
+    /// claimed.
+    pub(crate) fn of(machine: &FragmentMachine, whole: u64, peak: u64) -> Totals
+        ensures is { result ≡ totals_by machine.now.operation machine.now whole peak }
+        ensures all { result.samples ≤ machine.now.counter.tally.inspected }
+        ensures some { machine.now.counter.tally.inspected + result.samples +
+            listed_by machine.now.operation result.samples ≤ result.rows_read }
+        ensures few { result.rows_read ≤
+            reads_of machine.now.operation * machine.now.counter.tally.inspected }
+    {
+        let tally = machine.tally();
+        // Where a stream is cut, those count that are whole in the output.
+        let fragments = match machine.operation() {
+            Operation::List(_) => tally.fragments,
+            Operation::Split(_) => whole,
+        };
+        Totals {
+            fragments,
+            samples: tally.samples,
+            media_bytes: tally.media_bytes,
+            rows_read: machine.rows_read(),
+            peak,
         }
     }
 }
