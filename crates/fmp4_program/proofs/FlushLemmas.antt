@@ -13,7 +13,9 @@ use Rattle.mp4_recut.specs.declared.operation.Operation.{Operation}
 use Rattle.mp4_stream.specs.Fragments.{ReadsFragments}
 use Rattle.mp4_boxes.specs.HeldBoxes.{ReadsBoxes}
 use Rattle.mp4_stream.specs.declared.totals.Totals.{Totals}
-use Rattle.fmp4_program.specs.Runs.{Flushes}
+use Rattle.fmp4_program.specs.Runs.{Flushes, Lists}
+use Rattle.fmp4_program.specs.declared.asked.Listing.{Listing}
+use Rattle.fmp4_program.specs.declared.asked.Listing.TheVariants as listings
 
 -- what was written stays written
 Runs-kept : {T : Type 0} {reads : List ℕ → Reading} {ends : Ends} {claims : Claims} {tally : Tally} {t : T} (u : Option (List ℕ)) → ReadsStream {T = T} reads ends claims tally (Ok t) → Keeps ends.written' u → ReadsStream {T = T} reads (record ends { written' = u }) claims tally (Ok t)
@@ -43,6 +45,11 @@ reads-kept u r kept = record {
   few = r.few;
   by_boxes = record { most = r.by_boxes.most; enough = r.by_boxes.enough };
 }
+
+pub listing-kept : (listing : Listing) (claims : Claims) (ends : Ends) (u : Option (List ℕ)) → Lists listing claims ends (Ok tt) → Keeps ends.written' u → Lists listing claims (record ends { written' = u }) (Ok tt)
+listing-kept listings.Boxes claims ends u r kept = boxes-kept u r kept
+listing-kept listings.Samples claims ends u r kept = (r.0, reads-kept u r.1 kept)
+listing-kept listings.Fragments claims ends u r kept = (r.0, reads-kept u r.1 kept)
 
 -- a success was flushed, or the flush failed
 pub flushes : (failed failed' : Bool) (s : Result (Unit {0}) Stop) → OnOk s ((failed ≡ false) × (failed' ≡ false)) → IfErr s (λ e. (e ≡ Write) × (failed' ≡ true)) → Flushes (Ok tt) s failed failed'

@@ -15,6 +15,8 @@ use Rattle.mp4_recut.specs.declared.operation.Operation.TheVariants as operation
 use Rattle.fmp4_program.specs.declared.asked.SplitOptions.{SplitOptions}
 use Rattle.fmp4_program.specs.declared.asked.Invocation.{Invocation}
 use Rattle.fmp4_program.specs.declared.asked.Invocation.TheVariants.{Boxes, Samples, Fragments, Check, Split}
+use Rattle.fmp4_program.specs.declared.asked.Listing.{Listing}
+use Rattle.fmp4_program.specs.declared.asked.Listing.TheVariants as listings
 use Rattle.fmp4_program.specs.declared.asked.Settings.{Settings}
 use Rattle.fmp4_program.specs.Lines.{check_text, line, stop_text}
 
@@ -57,30 +59,27 @@ Flushes (Ok _) (Ok _) failed failed' = (failed ≡ false) × (failed' ≡ false)
 Flushes (Ok _) (Err stop) failed failed' = (stop ≡ Write) × (failed' ≡ true)
 Flushes (Err stop) answer failed failed' = (answer ≡ Err stop) × (failed' ≡ failed)
 
--- a run with this property, whether the flush after it fails or not
-pub record RunsAndFlushes (property : Ends → Result (Unit {0}) Stop → Type 0) (ends : Ends) (answer : Result (Unit {0}) Stop) : Type 0 where
+-- a run with this property within the memory that the settings allow, whether the flush after it fails or not
+pub record RunsAndFlushes (settings : Settings) (property : Claims → Ends → Result (Unit {0}) Stop → Type 0) (ends : Ends) (answer : Result (Unit {0}) Stop) : Type 0 where
   pub ran : Result (Unit {0}) Stop
   pub failed : Bool
-  pub runs : property (record ends { write_failed' = failed }) ran
+  pub peak : ℕ
+  pub runs : property (record { copy = settings.copy; limit = settings.max_held; peak = peak }) (record ends { write_failed' = failed }) ran
+  pub within : peak ≤ settings.max_held
   pub flushed : Flushes ran answer failed ends.write_failed'
 
--- the output of a run is written, and a success is flushed
-pub record Delivers (settings : Settings) (seen : Seen) (property : Claims → Ends → Result (Unit {0}) Stop → Type 0) : Type 0 where
+-- what was done has this property, its fault is reported, and the exit status is that of its answer
+pub record Reports (seen : Seen) (property : Ends → Result (Unit {0}) Stop → Type 0) : Type 0 where
   pub answer : Result (Unit {0}) Stop
-  pub peak : ℕ
-  pub runs : RunsAndFlushes (property (record { copy = settings.copy; limit = settings.max_held; peak = peak })) seen.ends answer
-  pub within : peak ≤ settings.max_held
+  pub done : property seen.ends answer
   pub exits : seen.status ≡ status_of answer
   pub reports : ReportsStop seen.reported seen.reported' seen.fault_failed answer
 
-abbrev pub ListsBoxes : Settings → Seen → Type 0
-ListsBoxes settings seen = Delivers settings seen (λ claims ends answer. ReadsBoxes ends claims answer)
-
-abbrev pub ListsSamples : Settings → Seen → Type 0
-ListsSamples settings seen = Delivers settings seen (λ claims ends answer. (totals : Totals) × ReadsFragments (operations.List commands.Samples) ends claims totals answer)
-
-abbrev pub ListsFragments : Settings → Seen → Type 0
-ListsFragments settings seen = Delivers settings seen (λ claims ends answer. (totals : Totals) × ReadsFragments (operations.List commands.Fragments) ends claims totals answer)
+-- the stream is listed so
+abbrev pub Lists : Listing → Claims → Ends → Result (Unit {0}) Stop → Type 0
+Lists listings.Boxes claims ends answer = ReadsBoxes ends claims answer
+Lists listings.Samples claims ends answer = (totals : Totals) × ReadsFragments (operations.List commands.Samples) ends claims totals answer
+Lists listings.Fragments claims ends answer = (totals : Totals) × ReadsFragments (operations.List commands.Fragments) ends claims totals answer
 
 -- these are the options of a cut
 pub record IsCutBy (options : SplitOptions) (cut : Cut) : Type 0 where
@@ -92,11 +91,8 @@ pub record IsCutBy (options : SplitOptions) (cut : Cut) : Type 0 where
   pub keyframes : cut.keyframes ≡ options.keyframes
 
 -- the fragments of the stream are cut so
-abbrev pub SplitsBy : SplitOptions → Ends → Claims → Result (Unit {0}) Stop → Type 0
-SplitsBy options ends claims answer = (cut : Cut) × IsCutBy options cut × ((totals : Totals) × ReadsFragments (operations.Split cut) ends claims totals answer)
-
-abbrev pub Splits : Settings → SplitOptions → Seen → Type 0
-Splits settings options seen = Delivers settings seen (λ claims ends answer. SplitsBy options ends claims answer)
+abbrev pub SplitsBy : SplitOptions → Claims → Ends → Result (Unit {0}) Stop → Type 0
+SplitsBy options claims ends answer = (cut : Cut) × IsCutBy options cut × ((totals : Totals) × ReadsFragments (operations.Split cut) ends claims totals answer)
 
 -- for a sound stream its line is written and flushed; for another nothing
 abbrev pub Writes : Ends → Result (Unit {0}) Stop → Result (Unit {0}) Stop → Totals → Type 0
@@ -104,23 +100,20 @@ Writes ends (Ok _) (Ok _) totals = Appends ends.written ends.written' (check_tex
 Writes ends (Ok _) (Err stop) totals = AppendsPrefix ends.written ends.written' (check_text totals) × (stop ≡ Write) × (ends.write_failed' ≡ true)
 Writes ends (Err stop) answer totals = Keeps ends.written ends.written' × (answer ≡ Err stop)
 
--- the stream is checked: the result, and the answer with the line that is written
-pub record Checks (settings : Settings) (seen : Seen) : Type 0 where
+-- the stream is checked within the memory that the settings allow: the result, and the answer with the line that is written
+pub record Checks (settings : Settings) (ends : Ends) (answer : Result (Unit {0}) Stop) : Type 0 where
   pub checked : Result (Unit {0}) Stop
-  pub answer : Result (Unit {0}) Stop
   pub totals : Totals
-  pub runs : ReadsFragments (operations.List commands.Check) (record seen.ends { written = None; written' = None; write_failed = false; write_failed' = false }) (record { copy = settings.copy; limit = settings.max_held; peak = totals.peak }) totals checked
+  pub runs : ReadsFragments (operations.List commands.Check) (record ends { written = None; written' = None; write_failed = false; write_failed' = false }) (record { copy = settings.copy; limit = settings.max_held; peak = totals.peak }) totals checked
   pub within : totals.peak ≤ settings.max_held
-  pub writes : Writes seen.ends checked answer totals
-  pub exits : seen.status ≡ status_of answer
-  pub reports : ReportsStop seen.reported seen.reported' seen.fault_failed answer
+  pub writes : Writes ends checked answer totals
 
 abbrev pub Does : Invocation → Seen → Type 0
-Does (Boxes settings) seen = ListsBoxes settings seen
-Does (Samples settings) seen = ListsSamples settings seen
-Does (Fragments settings) seen = ListsFragments settings seen
-Does (Check settings) seen = Checks settings seen
-Does (Split settings options) seen = Splits settings options seen
+Does (Boxes settings) seen = Reports seen (RunsAndFlushes settings (Lists listings.Boxes))
+Does (Samples settings) seen = Reports seen (RunsAndFlushes settings (Lists listings.Samples))
+Does (Fragments settings) seen = Reports seen (RunsAndFlushes settings (Lists listings.Fragments))
+Does (Check settings) seen = Reports seen (Checks settings)
+Does (Split settings options) seen = Reports seen (RunsAndFlushes settings (SplitsBy options))
 
 -- ---- the program
 

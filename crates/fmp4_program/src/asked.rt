@@ -40,3 +40,14 @@ pub enum Invocation {
     /// Cut its fragments into shorter ones.
     Split(Settings, SplitOptions),
 }
+
+/// What is listed, with a line for each.
+#[derive(Clone, Copy)]
+pub enum Listing {
+    /// The boxes of the stream.
+    Boxes,
+    /// Its samples.
+    Samples,
+    /// Its tracks and fragments.
+    Fragments,
+}

@@ -1,17 +1,13 @@
 //! A run of the program.
 
-ghost use Rattle.std.specs.Prelude.{◌≡◌, ◌≤◌, true, false, map, string_bytes, None, Result, IfSome, IfErr, OnOk, OnErr};
+ghost use Rattle.std.specs.Prelude.{◌≡◌, ◌≤◌, true, false, map, string_bytes, None, IfSome, IfErr, OnOk, OnErr};
 ghost use Rattle.mp4_machine.specs.Ends.{between, received, sent};
-ghost use Rattle.mp4_grammar.specs.declared.command.Command.TheVariants as commands;
 ghost use Rattle.mp4_ends.specs.Streams.{AppendsPrefix};
 ghost use Rattle.std.specs.Io.KnownBytes.{Appends, Keeps};
-ghost use Rattle.mp4_stream.specs.Fragments.{ReadsFragments, unsent};
-ghost use Rattle.mp4_boxes.specs.HeldBoxes.{ReadsBoxes};
-ghost use Rattle.mp4_recut.specs.declared.operation.Operation.TheVariants as operations;
-ghost use Rattle.fmp4_program.specs.Words.{MayCut, command_of};
-ghost use Rattle.fmp4_program.specs.Runs.{IsCutBy, Ran, ReportsStop, RunsAndFlushes, SplitsBy, Writes, WritesLine, status_of};
+ghost use Rattle.fmp4_program.specs.Words.{IsAllowed, MayCut, command_of};
+ghost use Rattle.fmp4_program.specs.Runs.{Checks, IsCutBy, Lists, Ran, ReportsStop, RunsAndFlushes, SplitsBy, WritesLine, status_of};
 
-use crate::asked::{Invocation, SplitOptions};
+use crate::asked::{Invocation, Listing, Settings, SplitOptions};
 use crate::command::{NoCommand, read_words};
 use crate::lines::{check_line, stop_line};
 use mp4_stream::fragments::fragments;
@@ -53,33 +49,39 @@ pub fn run<R: Source, W: Sink, F: Sink>(
         }
     };
     let answer = match asked {
-        Invocation::Boxes(settings) => {
-            let mut ledger = Ledger::new(alloc, settings.max_held);
-            list_boxes(r, w, &mut ledger, settings.copy)
-        }
-        Invocation::Samples(settings) => {
-            let mut ledger = Ledger::new(alloc, settings.max_held);
-            list_samples(r, w, &mut ledger, settings.copy)
-        }
-        Invocation::Fragments(settings) => {
-            let mut ledger = Ledger::new(alloc, settings.max_held);
-            list_fragments(r, w, &mut ledger, settings.copy)
-        }
-        Invocation::Check(settings) => {
-            let mut ledger = Ledger::new(alloc, settings.max_held);
-            check_stream(r, w, &mut ledger, settings.copy)
-        }
-        Invocation::Split(settings, options) => {
-            let mut ledger = Ledger::new(alloc, settings.max_held);
-            split_stream(r, w, &mut ledger, settings.copy, &options)
-        }
+        Invocation::Boxes(settings) => list(alloc, Listing::Boxes, r, w, settings),
+        Invocation::Samples(settings) => list(alloc, Listing::Samples, r, w, settings),
+        Invocation::Fragments(settings) => list(alloc, Listing::Fragments, r, w, settings),
+        Invocation::Check(settings) => check_stream(alloc, r, w, settings),
+        Invocation::Split(settings, options) => split_stream(alloc, r, w, settings, &options),
     };
     report_answer(fault_w, &answer);
     status_for(&answer)
 }
 
-/// Lists the boxes of the stream, and flushes the listing.
-fn list_boxes<R: Source, W: Sink>(
+/// Lists the stream within the memory that the settings allow, and flushes the listing.
+fn list<R: Source, W: Sink>(
+    alloc: Global,
+    listing: Listing,
+    r: &mut R,
+    w: &mut W,
+    settings: Settings,
+) -> Result<(), Stop>
+    requires { IsAllowed settings }
+    ensures { RunsAndFlushes settings (Lists listing) (between
+        (received R.remaining R.has_ended R.has_failed R.last_read r.old r.new)
+        (sent W.contents W.has_failed w.old w.new)) result }
+{
+    let mut ledger = Ledger::new(alloc, settings.max_held);
+    match write_listing(listing, r, w, &mut ledger, settings.copy) {
+        Ok(()) => flush(w),
+        Err(stop) => Err(stop),
+    }
+}
+
+/// Lists the stream.
+fn write_listing<R: Source, W: Sink>(
+    listing: Listing,
     r: &mut R,
     w: &mut W,
     ledger: &mut Ledger,
@@ -87,82 +89,36 @@ fn list_boxes<R: Source, W: Sink>(
 ) -> Result<(), Stop>
     requires copy { (4096 ≤ copy) × (copy ≤ 1048576) }
     requires idle { ledger.old.live ≡ 0 }
-    ensures runs { RunsAndFlushes (λ ends ran. ReadsBoxes ends
-        (record { copy = copy; limit = ledger.old.limit; peak = ledger.new.peak }) ran) (between
+    ensures runs { Lists listing
+        (record { copy = copy; limit = ledger.old.limit; peak = ledger.new.peak }) (between
         (received R.remaining R.has_ended R.has_failed R.last_read r.old r.new)
         (sent W.contents W.has_failed w.old w.new)) result }
     ensures within { ledger.new.peak ≤ ledger.old.limit }
 {
-    match boxes(r, w, ledger, copy, &mut Totals::new()) {
-        Ok(()) => flush(w),
-        Err(stop) => Err(stop),
+    let mut totals = Totals::new();
+    match listing {
+        Listing::Boxes => boxes(r, w, ledger, copy, &mut totals),
+        Listing::Samples => samples(r, w, ledger, copy, &mut totals),
+        Listing::Fragments => fragments(r, w, ledger, copy, &mut totals),
     }
 }
 
 /// Checks the stream, and writes and flushes the line of what it counted.
 fn check_stream<R: Source, W: Sink>(
+    alloc: Global,
     r: &mut R,
     w: &mut W,
-    ledger: &mut Ledger,
-    copy: u32,
+    settings: Settings,
 ) -> Result<(), Stop>
-    requires copy { (4096 ≤ copy) × (copy ≤ 1048576) }
-    requires idle { ledger.old.live ≡ 0 }
-    ensures checks { (checked : Result (Unit {0}) Stop) × (totals : Totals) ×
-        ReadsFragments (operations.List commands.Check) (between
-        (received R.remaining R.has_ended R.has_failed R.last_read r.old r.new) unsent)
-        (record { copy = copy; limit = ledger.old.limit; peak = totals.peak }) totals checked ×
-        (totals.peak ≤ ledger.old.limit) × Writes (between
+    requires { IsAllowed settings }
+    ensures { Checks settings (between
         (received R.remaining R.has_ended R.has_failed R.last_read r.old r.new)
-        (sent W.contents W.has_failed w.old w.new)) checked result totals }
+        (sent W.contents W.has_failed w.old w.new)) result }
 {
+    let mut ledger = Ledger::new(alloc, settings.max_held);
     let mut totals = Totals::new();
-    match check(r, ledger, copy, &mut totals) {
+    match check(r, &mut ledger, settings.copy, &mut totals) {
         Ok(()) => send(w, check_line(&totals).bytes()),
-        Err(stop) => Err(stop),
-    }
-}
-
-/// Lists the samples of the stream, and flushes the listing.
-fn list_samples<R: Source, W: Sink>(
-    r: &mut R,
-    w: &mut W,
-    ledger: &mut Ledger,
-    copy: u32,
-) -> Result<(), Stop>
-    requires copy { (4096 ≤ copy) × (copy ≤ 1048576) }
-    requires idle { ledger.old.live ≡ 0 }
-    ensures runs { RunsAndFlushes (λ ends ran. (totals : Totals) ×
-        ReadsFragments (operations.List commands.Samples) ends
-        (record { copy = copy; limit = ledger.old.limit; peak = ledger.new.peak }) totals ran) (between
-        (received R.remaining R.has_ended R.has_failed R.last_read r.old r.new)
-        (sent W.contents W.has_failed w.old w.new)) result }
-    ensures within { ledger.new.peak ≤ ledger.old.limit }
-{
-    match samples(r, w, ledger, copy, &mut Totals::new()) {
-        Ok(()) => flush(w),
-        Err(stop) => Err(stop),
-    }
-}
-
-/// Lists the tracks and the fragments of the stream, and flushes the listing.
-fn list_fragments<R: Source, W: Sink>(
-    r: &mut R,
-    w: &mut W,
-    ledger: &mut Ledger,
-    copy: u32,
-) -> Result<(), Stop>
-    requires copy { (4096 ≤ copy) × (copy ≤ 1048576) }
-    requires idle { ledger.old.live ≡ 0 }
-    ensures runs { RunsAndFlushes (λ ends ran. (totals : Totals) ×
-        ReadsFragments (operations.List commands.Fragments) ends
-        (record { copy = copy; limit = ledger.old.limit; peak = ledger.new.peak }) totals ran) (between
-        (received R.remaining R.has_ended R.has_failed R.last_read r.old r.new)
-        (sent W.contents W.has_failed w.old w.new)) result }
-    ensures within { ledger.new.peak ≤ ledger.old.limit }
-{
-    match fragments(r, w, ledger, copy, &mut Totals::new()) {
-        Ok(()) => flush(w),
         Err(stop) => Err(stop),
     }
 }
@@ -206,23 +162,21 @@ fn in_time(cut: Cut, duration: Option<u32>) -> Cut
 
 /// Cuts the fragments of the stream into shorter ones, and flushes what was written.
 fn split_stream<R: Source, W: Sink>(
+    alloc: Global,
     r: &mut R,
     w: &mut W,
-    ledger: &mut Ledger,
-    copy: u32,
+    settings: Settings,
     options: &SplitOptions,
 ) -> Result<(), Stop>
-    requires copy { (4096 ≤ copy) × (copy ≤ 1048576) }
-    requires idle { ledger.old.live ≡ 0 }
+    requires settings { IsAllowed settings }
     requires options { MayCut options.now }
-    ensures runs { RunsAndFlushes (λ ends ran. SplitsBy options.now ends
-        (record { copy = copy; limit = ledger.old.limit; peak = ledger.new.peak }) ran) (between
+    ensures { RunsAndFlushes settings (SplitsBy options.now) (between
         (received R.remaining R.has_ended R.has_failed R.last_read r.old r.new)
         (sent W.contents W.has_failed w.old w.new)) result }
-    ensures within { ledger.new.peak ≤ ledger.old.limit }
 {
+    let mut ledger = Ledger::new(alloc, settings.max_held);
     let cut = cut_by(options);
-    match split(r, w, ledger, &cut, copy, &mut Totals::new()) {
+    match split(r, w, &mut ledger, &cut, settings.copy, &mut Totals::new()) {
         Ok(()) => flush(w),
         Err(stop) => Err(stop),
     }

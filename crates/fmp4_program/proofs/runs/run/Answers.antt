@@ -10,14 +10,5 @@ returns g c =
       | in-Samples w ↦ search rules
       | in-Fragments w ↦ search rules
       | in-Check w ↦ search rules
-      | in-Split w ↦
-          let ran = w.split_stream-answer.ensures in
-          rw (w.in-Split.is, w.r-is, w.w-is) (record {
-            answer = c.match-asked.answer;
-            peak = w.split_stream-answer.new.ledger.peak;
-            runs = rw w.answer-is (rw w.new-ledger-in-Split.ensures at ran.runs);
-            within = rw w.new-ledger-in-Split.ensures at ran.within;
-            exits = c.status_for.ensures;
-            reports = c.report_answer.ensures;
-          })
+      | in-Split w ↦ search rules
     ]))

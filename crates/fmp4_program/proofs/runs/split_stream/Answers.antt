@@ -2,20 +2,26 @@ use Rattle.std.proofs.Common.{Err, Ok, refl}
 use Rattle.fmp4_program.proofs.FlushLemmas.{flushes, reads-kept}
 use Rattle.fmp4_program.proofs.runs.split_stream.Goals as goal
 
-pub returns-in-Ok-clause-runs : goal.returns-in-Ok-clause-runs
-returns-in-Ok-clause-runs g c =
+pub returns-in-Ok : goal.returns-in-Ok
+returns-in-Ok g c =
+    let did = rw c.new-ledger.ensures at c.in-Ok.ensures in
     record {
       ran = Ok tt;
       failed = g.W.Sink.has_failed c.split.new.w;
-      runs = (c.cut_by-cut.result, c.cut_by-cut.ensures, (c.split.new.totals, reads-kept _ c.in-Ok.ensures.runs c.flush.ensures.bytes));
+      peak = c.split.new.ledger.peak;
+      runs = (c.cut_by-cut.result, c.cut_by-cut.ensures, (c.split.new.totals, reads-kept _ did.runs c.flush.ensures.bytes));
+      within = did.within;
       flushed = flushes _ _ c.flush.result c.flush.ensures.ok c.flush.ensures.err;
     }
 
-pub returns-in-Err-clause-runs : goal.returns-in-Err-clause-runs
-returns-in-Err-clause-runs g c =
+pub returns-in-Err : goal.returns-in-Err
+returns-in-Err g c =
+    let did = rw c.new-ledger.ensures at c.in-Err.ensures in
     record {
       ran = Err c.in-Err.stop;
       failed = g.W.Sink.has_failed c.split.new.w;
-      runs = (c.cut_by-cut.result, c.cut_by-cut.ensures, (c.split.new.totals, c.in-Err.ensures.runs));
+      peak = c.split.new.ledger.peak;
+      runs = (c.cut_by-cut.result, c.cut_by-cut.ensures, (c.split.new.totals, did.runs));
+      within = did.within;
       flushed = (refl, refl);
     }
