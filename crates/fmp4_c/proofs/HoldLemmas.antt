@@ -1,5 +1,5 @@
 -- What a Feeder's calls do to what an engine is.
-use Rattle.std.proofs.Common.{◌≡◌, ◌∙◌, ℕ, ◌+◌, List, [], ◌∷◌, ◌++◌, append_assoc, length, length-append, take, drop, Option, Some, None, Ok, Err, refl, sym, ap, subst, arith}
+use Rattle.std.proofs.Common.{◌≡◌, ◌∙◌, ℕ, ◌+◌, List, ◌∷◌, ◌++◌, append_assoc, length, length-append, take, drop, Option, Some, None, Ok, Err, refl, sym, ap, subst, arith}
 use Rattle.std.proofs.lemmas.List.{take-append-drop}
 use Rattle.std.proofs.lemmas.Option.{none-some}
 use Rattle.std.specs.Io.KnownBytes.{Appends}
@@ -7,22 +7,20 @@ use Rattle.std.specs.Prelude.{IsErrOf}
 use Rattle.mp4_ledger.specs.Memory.{Account}
 use Rattle.mp4_machine.specs.Fed.{AllWhole, FedUntil, Borrowed, ClaimRefusedAfter, Sums, WritesRest}
 use Rattle.mp4_box.specs.declared.rules.Fault as faults
-use Rattle.mp4_machine.specs.Readings.{Effects, Reading, both, whole_in, fault_in as faults_in}
+use Rattle.mp4_machine.specs.Readings.{Effects, both, whole_in, fault_in as faults_in}
 use Rattle.mp4_machine.specs.declared.stop.Stop.{Stop}
 use Rattle.mp4_machine.specs.declared.stop.Stop.TheVariants.{Stream, Read, Write, OverLimit, Memory}
 use Rattle.mp4_machine.proofs.MarkLemmas.{whole_in-before, whole_in-both}
-use Rattle.mp4_boxes.proofs.BoxLemmas as box_lemmas
-use Rattle.mp4_stream.proofs.FeederLemmas as feeder_lemmas
 use Rattle.mp4_recut.specs.Operations.{reads_of}
 use Rattle.mp4_stream.specs.declared.totals.Totals.{Totals}
 use Rattle.fmp4_c.specs.Answers.{Counted, answer_to, counted_of, fault_of, number_of, report_from}
+use Rattle.fmp4_c.specs.Calls.{Returns}
 use Rattle.fmp4_c.specs.Engines.{Fed, Finished, Holds, IsRefused, Run, Stopped, StopsIn, counted_in, report_of}
 use Rattle.fmp4_c.specs.Tasks.{Feeds, Finishes, IsAfter, WritesBefore, fragments_in, held_by, live, reading_of, stop_of, sums_of, task_of, totals_of}
 use Rattle.fmp4_c.specs.declared.answer.Answer.{Answer}
 use Rattle.fmp4_c.specs.declared.answer.Answer.TheVariants.{Done, NoRoom}
 use Rattle.fmp4_c.specs.declared.report.Report.{Report}
 use Rattle.fmp4_c.specs.declared.task.Task.{Task}
-use Rattle.fmp4_c.specs.declared.task.Task.TheVariants as tasks
 use Rattle.fmp4_c.specs.declared.task_feeder.TaskFeeder.{TaskFeeder}
 use Rattle.fmp4_c.specs.declared.task_feeder.TaskFeeder.TheVariants.{Fragments, Boxes}
 
@@ -288,3 +286,13 @@ in-box old before x y opens same is = sym same ∙ sym opens ∙ ap (λ (r : Run
 
 pub the-run : (old before : Option Run) (x y r : Run) → Some x ≡ before → before ≡ old → y ≡ x → old ≡ Some r → r ≡ y
 the-run old before x y r opens same is here = sym (some-is y r (sym (in-box old before x y opens same is) ∙ here))
+
+-- the clauses of a call of an engine, of what the handle holds before and after it
+pub handed-back : (clauses : Run → Answer → Run → Type 0) (old before : Option Run) (x y r : Run) → Some x ≡ before → before ≡ old → y ≡ x → old ≡ Some r → (number : ℕ) (answer : Answer) (held : Option Run) (left : Run) → number ≡ number_of answer → held ≡ Some left → clauses y answer left → Returns number held (clauses r)
+handed-back clauses old before x y r opens same is here number answer held left returned still does = record {
+  answer = answer;
+  returned = returned;
+  left = left;
+  open_still = still;
+  does = subst (λ (z : Run). clauses z answer left) (sym (the-run old before x y r opens same is here)) does;
+}

@@ -233,6 +233,15 @@ ClaimsIn task b held = (r : Run) × (held ≡ Some r) × ClaimsWithin task b r.f
 abbrev pub FedIn : Task → (b given : List ℕ) → (number : ℕ) → Option Run → Type 0
 FedIn task b given number held = (answer : Answer) × (number ≡ number_of answer) × (r : Run) × (held ≡ Some r) × Fed task b given answer r
 
+-- a call of an open stream returned the number of its answer, and left the stream open: its clauses, of the answer and of
+-- what is left
+pub record Returns (number : ℕ) (held : Option Run) (clauses : Answer → Run → Type 0) : Type 0 where
+  pub answer : Answer
+  pub returned : number ≡ number_of answer
+  pub left : Run
+  pub open_still : held ≡ Some left
+  pub does : clauses answer left
+
 -- the number that a finish returned
 abbrev pub FinishedIn : Task → (b : List ℕ) → (number : ℕ) → Report → Type 0
 FinishedIn task b number report = (answer : Answer) × (number ≡ number_of answer) × Finished task b answer report

@@ -13,8 +13,10 @@ use Rattle.fmp4_c.specs.Answers.{Counted, answer_to, counted_of, fault_of, numbe
 use Rattle.fmp4_c.specs.PendingOutput.{PendingOutput, empty}
 use Rattle.fmp4_c.specs.declared.answer.Answer.{Answer}
 use Rattle.fmp4_c.specs.declared.answer.Answer.TheVariants.{Done, Full, Fault, NoRoom, OverLimit, NoMemory, NoRecord, NotOpen, Closed, IsOpen, Ended, BadSamples, BadBytes, BadFlags, BadRoom, BadLayout, BadListing}
-use Rattle.fmp4_c.specs.Tasks.{IsAfter, IsEnough, fragments_in, held_by, live, peak_of, reading_of, shown_of, stop_of, sums_of, task_of, totals_of}
+use Rattle.fmp4_c.specs.Tasks.{IsAfter, IsEnough, fragments_in, held_by, live, peak_of, reading_of, record_listing, shown_of, stop_of, sums_of, task_of, totals_of}
 use Rattle.fmp4_c.specs.declared.report.Report.{Report}
+use Rattle.fmp4_c.specs.declared.results.Feed.{Feed}
+use Rattle.fmp4_c.specs.declared.results.FeedTake.{FeedTake}
 use Rattle.fmp4_c.specs.declared.task.Task.{Task}
 use Rattle.fmp4_c.specs.declared.task.Task.TheVariants as tasks
 use Rattle.fmp4_c.specs.declared.task_feeder.TaskFeeder.{TaskFeeder}
@@ -177,6 +179,35 @@ pub record IsKept (r r' : Run) : Type 0 where
   pub share : r'.share ≡ r.share
   pub reported : r'.reported ≡ r.reported
   pub task : r'.task ≡ r.task
+
+-- ---- feeds
+
+-- what a feed does
+pub record FeedClauses (r : Run) (input : List ℕ) (did : Feed) (r' : Run) : Type 0 where
+  pub feeds : (task : Task) → (b given : List ℕ) → Holds task b given r → Fed task (b ++ take did.taken input) given did.answer r'
+  pub portion : (p : TaskFeeder) → r.feeding ≡ Some p → stop_of p ≡ None → IsPortion 0 r input did.taken did.answer
+  pub stopped : (task : Task) → (b given : List ℕ) → (a : Answer) → Stopped task b given a r → (did ≡ record { taken = 0; answer = a }) × (r' ≡ r)
+  pub ended : r.feeding ≡ None → (did ≡ record { taken = 0; answer = Ended }) × (r' ≡ r)
+  pub claims : (task : Task) → (b given : List ℕ) → Holds task b given r → ClaimsWithin task (b ++ take did.taken input) r'.feeding
+  pub fits : (task : Task) → (b given : List ℕ) → Holds task b given r → FitsIn task (b ++ take did.taken input) r (number_of did.answer)
+  pub room : (task : Task) → (b given : List ℕ) → Holds task b given r → r'.waiting.room ≡ r.waiting.room
+  pub no_room : (task : Task) → (b given : List ℕ) → Holds task b given r → number_of did.answer ≡ number_of NoRoom → length r'.waiting.bytes ≡ r'.waiting.room
+  pub kept : IsKept r r'
+
+-- what one does that takes output at once, into a buffer that was `out` and is `out'`
+pub record FeedTakeClauses (r : Run) (input out out' : List ℕ) (did : FeedTake) (r' : Run) : Type 0 where
+  pub feeds : (task : Task) → (b given : List ℕ) → Holds task b given r → (r.task ≡ record_listing → ⊥) → Fed task (b ++ take did.taken input) (given ++ take did.given out') did.answer r'
+  pub portion : (p : TaskFeeder) → r.feeding ≡ Some p → stop_of p ≡ None → (r.task ≡ record_listing → ⊥) → IsPortion (free_in (length out) r) (after_take (length out) r) input did.taken did.answer
+  pub stopped : (task : Task) → (b given : List ℕ) → (a : Answer) → Stopped task b given a r → (r.task ≡ record_listing → ⊥) → (did.taken ≡ 0) × (did.answer ≡ a) × Stopped task b (given ++ take did.given out') a r'
+  pub ended : r.feeding ≡ None → (did ≡ record { taken = 0; given = 0; answer = Ended }) × (r' ≡ r) × (out' ≡ out)
+  pub records : (p : TaskFeeder) → r.feeding ≡ Some p → r.task ≡ record_listing → (did ≡ record { taken = 0; given = 0; answer = BadListing }) × (r' ≡ r) × (out' ≡ out)
+  pub claims : (task : Task) → (b given : List ℕ) → Holds task b given r → (r.task ≡ record_listing → ⊥) → ClaimsWithin task (b ++ take did.taken input) r'.feeding
+  pub fits : (task : Task) → (b given : List ℕ) → Holds task b given r → (r.task ≡ record_listing → ⊥) → FitsIn task (b ++ take did.taken input) r (number_of did.answer)
+  pub room : (task : Task) → (b given : List ℕ) → Holds task b given r → r'.waiting.room ≡ r.waiting.room
+  pub no_room : (task : Task) → (b given : List ℕ) → Holds task b given r → number_of did.answer ≡ number_of NoRoom → (did.given ≡ length out') × (length r'.waiting.bytes ≡ r'.waiting.room)
+  pub within : did.given ≤ length out'
+  pub most : (p : TaskFeeder) → r.feeding ≡ Some p → (r.task ≡ record_listing → ⊥) → did.given < length out' → r'.waiting.bytes ≡ []
+  pub kept : IsKept r r'
 
 -- ---- the limit, and another stream
 

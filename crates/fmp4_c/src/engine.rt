@@ -6,8 +6,8 @@ ghost use Rattle.mp4_grammar.specs.TrafRecords.{IsRecord, record_bytes, record_l
 ghost use Rattle.mp4_machine.specs.declared.stop.Stop as stops;
 ghost use Rattle.fmp4_c.specs.Answers.{answer_to, number_of};
 ghost use Rattle.fmp4_c.specs.Calls.{IsOpened};
-ghost use Rattle.fmp4_c.specs.Engines.{ClaimsWithin, Fed, Finished, FitsIn, Holds, IsKept, IsPortion, IsReset, Stopped};
-ghost use Rattle.fmp4_c.specs.Engines.{after_take, free_in, held_in, limited_to, report_of, step_of};
+ghost use Rattle.fmp4_c.specs.Engines.{FeedClauses, FeedTakeClauses, Finished, Holds, IsReset, Stopped};
+ghost use Rattle.fmp4_c.specs.Engines.{held_in, limited_to, report_of, step_of};
 ghost use Rattle.fmp4_c.specs.Tasks.{record_listing, stop_of};
 ghost use Rattle.fmp4_c.specs.declared.answer.Answer as answers;
 ghost use Rattle.fmp4_c.specs.declared.task.Task.{Task};
@@ -108,25 +108,7 @@ impl Engine {
 
     /// Feeds the input of the stream, or the front of one. After a stop it returns the same, and takes nothing.
     pub fn feed(&mut self, input: &[u8]) -> Feed
-        ensures feeds { (task : Task) → (b given : List ℕ) → Holds task b given self.old →
-            Fed task (b ++ take result.taken input.now) given result.answer self.new }
-        ensures portion { (p : TaskFeeder) → self.old.feeding ≡ Some p → stop_of p ≡ None →
-            IsPortion 0 self.old input.now result.taken result.answer }
-        ensures stopped { (task : Task) → (b given : List ℕ) → (a : answers.Answer) →
-            Stopped task b given a self.old →
-            (result ≡ record { taken = 0; answer = a }) × (self.new ≡ self.old) }
-        ensures ended { self.old.feeding ≡ None →
-            (result ≡ record { taken = 0; answer = Answer.Ended }) × (self.new ≡ self.old) }
-        ensures claims { (task : Task) → (b given : List ℕ) → Holds task b given self.old →
-            ClaimsWithin task (b ++ take result.taken input.now) self.new.feeding }
-        ensures fits { (task : Task) → (b given : List ℕ) → Holds task b given self.old →
-            FitsIn task (b ++ take result.taken input.now) self.old (number_of result.answer) }
-        ensures room { (task : Task) → (b given : List ℕ) → Holds task b given self.old →
-            self.new.waiting.room ≡ self.old.waiting.room }
-        ensures no_room { (task : Task) → (b given : List ℕ) → Holds task b given self.old →
-            number_of result.answer ≡ number_of Answer.NoRoom →
-            length self.new.waiting.bytes ≡ self.new.waiting.room }
-        ensures kept { IsKept self.old self.new }
+        ensures { FeedClauses self.old input.now result self.new }
     {
         let taken = self.portion(input.len(), 0);
         match &mut self.feeder {
@@ -164,39 +146,7 @@ impl Engine {
     /// Takes output from the front, then feeds the input, or the front of it, whose output follows in the buffer: what
     /// doesn't fit waits. After a stop it returns the same, and takes no input. A stream of records is not fed so.
     pub fn feed_take(&mut self, input: &[u8], buffer: &mut [u8]) -> FeedTake
-        ensures feeds { (task : Task) → (b given : List ℕ) → Holds task b given self.old →
-            (self.old.task ≡ record_listing → ⊥) →
-            Fed task (b ++ take result.taken input.now) (given ++ take result.given buffer.new)
-            result.answer self.new }
-        ensures portion { (p : TaskFeeder) → self.old.feeding ≡ Some p → stop_of p ≡ None →
-            (self.old.task ≡ record_listing → ⊥) →
-            IsPortion (free_in (length buffer.old) self.old) (after_take (length buffer.old) self.old)
-            input.now result.taken result.answer }
-        ensures stopped { (task : Task) → (b given : List ℕ) → (a : answers.Answer) →
-            Stopped task b given a self.old → (self.old.task ≡ record_listing → ⊥) →
-            (result.taken ≡ 0) × (result.answer ≡ a) ×
-            Stopped task b (given ++ take result.given buffer.new) a self.new }
-        ensures ended { self.old.feeding ≡ None →
-            (result ≡ record { taken = 0; given = 0; answer = Answer.Ended }) ×
-            (self.new ≡ self.old) × (buffer.new ≡ buffer.old) }
-        ensures records { (p : TaskFeeder) → self.old.feeding ≡ Some p → self.old.task ≡ record_listing →
-            (result ≡ record { taken = 0; given = 0; answer = Answer.BadListing }) ×
-            (self.new ≡ self.old) × (buffer.new ≡ buffer.old) }
-        ensures claims { (task : Task) → (b given : List ℕ) → Holds task b given self.old →
-            (self.old.task ≡ record_listing → ⊥) →
-            ClaimsWithin task (b ++ take result.taken input.now) self.new.feeding }
-        ensures fits { (task : Task) → (b given : List ℕ) → Holds task b given self.old →
-            (self.old.task ≡ record_listing → ⊥) →
-            FitsIn task (b ++ take result.taken input.now) self.old (number_of result.answer) }
-        ensures room { (task : Task) → (b given : List ℕ) → Holds task b given self.old →
-            self.new.waiting.room ≡ self.old.waiting.room }
-        ensures no_room { (task : Task) → (b given : List ℕ) → Holds task b given self.old →
-            number_of result.answer ≡ number_of Answer.NoRoom →
-            (result.given ≡ length buffer.new) × (length self.new.waiting.bytes ≡ self.new.waiting.room) }
-        ensures within { result.given ≤ length buffer.new }
-        ensures most { (p : TaskFeeder) → self.old.feeding ≡ Some p → (self.old.task ≡ record_listing → ⊥) →
-            result.given < length buffer.new → self.new.waiting.bytes ≡ [] }
-        ensures kept { IsKept self.old self.new }
+        ensures { FeedTakeClauses self.old input.now buffer.old buffer.new result self.new }
     {
         if self.feeder.is_none() {
             return self.passed(0, 0, Answer::Ended);

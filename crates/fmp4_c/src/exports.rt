@@ -3,8 +3,8 @@
 ghost use Rattle.std.specs.Prelude.{◌≡◌, ℕ, ◌<◌, ◌≤◌, List, [], ◌++◌, length, take, drop, min, None, Some, IfSome, IsSome};
 ghost use Rattle.mp4_machine.specs.declared.stop.Stop as stops;
 ghost use Rattle.fmp4_c.specs.Answers.{answer_to, at_rest, number_of, report_from};
-ghost use Rattle.fmp4_c.specs.Calls.{ClaimsIn, FedIn, FinishedIn, HoldsIn, StoppedIn};
-ghost use Rattle.fmp4_c.specs.Engines.{FitsIn, Holds, IsKept, IsPortion, Run, Stopped, after_take, counted_in, free_in, report_of};
+ghost use Rattle.fmp4_c.specs.Calls.{FinishedIn, HoldsIn, Returns, StoppedIn};
+ghost use Rattle.fmp4_c.specs.Engines.{FeedClauses, FeedTakeClauses, Run, counted_in, report_of};
 ghost use Rattle.fmp4_c.specs.Tasks.{record_listing, stop_of};
 ghost use Rattle.fmp4_c.specs.declared.answer.Answer as answers;
 ghost use Rattle.fmp4_c.specs.declared.task.Task.{Task};
@@ -25,35 +25,8 @@ pub extern "C" fn fmp4_feed(
     input: &[u8],
     taken: &mut usize,
 ) -> u32
-    ensures feeds { (task : Task) → (b given : List ℕ) →
-        HoldsIn task b given stream.old.handle.held →
-        FedIn task (b ++ take taken.new input.now) given result stream.new.handle.held }
-    ensures portion { (r : Run) → (p : TaskFeeder) → stream.old.handle.held ≡ Some r →
-        r.feeding ≡ Some p → stop_of p ≡ None → (answer : answers.Answer) ×
-        (result ≡ number_of answer) × IsPortion 0 r input.now taken.new answer }
-    ensures stopped { (task : Task) → (b given : List ℕ) → (a : answers.Answer) →
-        StoppedIn task b given a stream.old.handle.held →
-        (result ≡ number_of a) × (taken.new ≡ 0) ×
-        (stream.new.handle.held ≡ stream.old.handle.held) }
-    ensures claims { (task : Task) → (b given : List ℕ) →
-        HoldsIn task b given stream.old.handle.held →
-        ClaimsIn task (b ++ take taken.new input.now) stream.new.handle.held }
-    ensures fits { (task : Task) → (b given : List ℕ) → (r : Run) →
-        stream.old.handle.held ≡ Some r → Holds task b given r →
-        FitsIn task (b ++ take taken.new input.now) r result }
-    ensures room { (task : Task) → (b given : List ℕ) → (r : Run) →
-        stream.old.handle.held ≡ Some r → Holds task b given r →
-        IfSome stream.new.handle.held (λ r'. r'.waiting.room ≡ r.waiting.room) }
-    ensures no_room { (task : Task) → (b given : List ℕ) → (r : Run) →
-        stream.old.handle.held ≡ Some r → Holds task b given r →
-        result ≡ number_of Answer.NoRoom →
-        IfSome stream.new.handle.held (λ r'. length r'.waiting.bytes ≡ r'.waiting.room) }
-    ensures open { (r : Run) → stream.old.handle.held ≡ Some r → IsSome stream.new.handle.held }
-    ensures kept { (r : Run) → stream.old.handle.held ≡ Some r →
-        IfSome stream.new.handle.held (IsKept r) }
-    ensures ended { (r : Run) → stream.old.handle.held ≡ Some r → r.feeding ≡ None →
-        (result ≡ number_of Answer.Ended) × (taken.new ≡ 0) ×
-        (stream.new.handle.held ≡ Some r) }
+    ensures open { (r : Run) → stream.old.handle.held ≡ Some r → Returns result stream.new.handle.held
+        (λ answer r'. FeedClauses r input.now (record { taken = taken.new; answer = answer }) r') }
     ensures closed { stream.old.handle.held ≡ None →
         (result ≡ number_of (at_rest stream.old.closed)) × (taken.new ≡ 0) ×
         (stream.new.handle.held ≡ None) }
@@ -86,45 +59,9 @@ pub extern "C" fn fmp4_feed_take(
     out: &mut [u8],
     given: &mut usize,
 ) -> u32
-    ensures feeds { (task : Task) → (b before : List ℕ) → (r : Run) →
-        stream.old.handle.held ≡ Some r → (r.task ≡ record_listing → ⊥) → Holds task b before r →
-        FedIn task (b ++ take taken.new input.now) (before ++ take given.new out.new) result
-        stream.new.handle.held }
-    ensures portion { (r : Run) → (p : TaskFeeder) → stream.old.handle.held ≡ Some r →
-        r.feeding ≡ Some p → stop_of p ≡ None → (r.task ≡ record_listing → ⊥) → (answer : answers.Answer) ×
-        (result ≡ number_of answer) ×
-        IsPortion (free_in (length out.old) r) (after_take (length out.old) r) input.now taken.new answer }
-    ensures stopped { (task : Task) → (b before : List ℕ) → (a : answers.Answer) → (r : Run) →
-        stream.old.handle.held ≡ Some r → (r.task ≡ record_listing → ⊥) → Stopped task b before a r →
-        (result ≡ number_of a) × (taken.new ≡ 0) ×
-        StoppedIn task b (before ++ take given.new out.new) a stream.new.handle.held }
-    ensures records { (r : Run) → (p : TaskFeeder) → stream.old.handle.held ≡ Some r →
-        r.feeding ≡ Some p → r.task ≡ record_listing →
-        (result ≡ number_of Answer.BadListing) × (taken.new ≡ 0) × (given.new ≡ 0) ×
-        (out.new ≡ out.old) × (stream.new.handle.held ≡ Some r) }
-    ensures claims { (task : Task) → (b before : List ℕ) → (r : Run) →
-        stream.old.handle.held ≡ Some r → (r.task ≡ record_listing → ⊥) → Holds task b before r →
-        ClaimsIn task (b ++ take taken.new input.now) stream.new.handle.held }
-    ensures fits { (task : Task) → (b before : List ℕ) → (r : Run) →
-        stream.old.handle.held ≡ Some r → (r.task ≡ record_listing → ⊥) → Holds task b before r →
-        FitsIn task (b ++ take taken.new input.now) r result }
-    ensures room { (task : Task) → (b before : List ℕ) → (r : Run) →
-        stream.old.handle.held ≡ Some r → Holds task b before r →
-        IfSome stream.new.handle.held (λ r'. r'.waiting.room ≡ r.waiting.room) }
-    ensures no_room { (task : Task) → (b before : List ℕ) → (r : Run) →
-        stream.old.handle.held ≡ Some r → Holds task b before r →
-        result ≡ number_of Answer.NoRoom → (given.new ≡ length out.new) ×
-        IfSome stream.new.handle.held (λ r'. length r'.waiting.bytes ≡ r'.waiting.room) }
-    ensures within { given.new ≤ length out.new }
-    ensures most { (r : Run) → (p : TaskFeeder) → stream.old.handle.held ≡ Some r → r.feeding ≡ Some p →
-        (r.task ≡ record_listing → ⊥) → given.new < length out.new →
-        IfSome stream.new.handle.held (λ r'. r'.waiting.bytes ≡ []) }
-    ensures open { (r : Run) → stream.old.handle.held ≡ Some r → IsSome stream.new.handle.held }
-    ensures kept { (r : Run) → stream.old.handle.held ≡ Some r →
-        IfSome stream.new.handle.held (IsKept r) }
-    ensures ended { (r : Run) → stream.old.handle.held ≡ Some r → r.feeding ≡ None →
-        (result ≡ number_of Answer.Ended) × (taken.new ≡ 0) × (given.new ≡ 0) ×
-        (out.new ≡ out.old) × (stream.new.handle.held ≡ Some r) }
+    ensures open { (r : Run) → stream.old.handle.held ≡ Some r → Returns result stream.new.handle.held
+        (λ answer r'. FeedTakeClauses r input.now out.old out.new
+        (record { taken = taken.new; given = given.new; answer = answer }) r') }
     ensures closed { stream.old.handle.held ≡ None →
         (result ≡ number_of (at_rest stream.old.closed)) × (taken.new ≡ 0) × (given.new ≡ 0) ×
         (out.new ≡ out.old) × (stream.new.handle.held ≡ None) }

@@ -3,6 +3,7 @@
 ghost use Rattle.std.specs.Prelude.{◌≡◌, ℕ, ◌+◌, ◌<◌, ◌≤◌, ◌^◌, List, length, None, Some, OnOk, []};
 ghost use Rattle.std.specs.List.{sum_by};
 ghost use Rattle.mp4_box.specs.Headers.{HasRoom, header_at, need};
+ghost use Rattle.mp4_box.specs.declared.headers.Header.{Header};
 ghost use Rattle.mp4_box.specs.declared.headers.Step.TheVariants as steps;
 ghost use Rattle.mp4_init.specs.Moovs.{fault_of};
 ghost use Rattle.mp4_frag.specs.Moofs.{moof_runs, moof_samples};
@@ -13,7 +14,7 @@ ghost use Rattle.mp4_pieces.specs.Rooms.{room_fault};
 ghost use Rattle.mp4_machine.specs.Ends.{sent};
 ghost use Rattle.mp4_machine.specs.Bodies.{least_end, longest};
 ghost use Rattle.mp4_grammar.specs.Meanings.{fragment_fault};
-ghost use Rattle.mp4_recut.specs.Splitting.{output_fragments, runs_fragments, splitting};
+ghost use Rattle.mp4_recut.specs.Splitting.{runs_fragments, splitting};
 ghost use Rattle.mp4_recut.specs.Cursors.{AreCut};
 ghost use Rattle.mp4_recut.specs.declared.operation.Operation.TheVariants as operations;
 ghost use Rattle.mp4_fragment_machine.specs.Places.{Untouched};
@@ -47,8 +48,8 @@ pub(crate) struct Split {
     pub(crate) needed: u64,
 }
 
-/// Begins the media of the pending moof, whose mdat has this header and is accepted: counts its samples, and writes
-/// everything that needs no media yet.
+/// Begins the media of the pending moof, whose mdat is accepted: counts its samples, and writes everything that needs
+/// no media yet.
 ///
 /// # Errors
 ///
@@ -56,7 +57,6 @@ pub(crate) struct Split {
 fn begin_recut<W: Sink>(
     pending_moof: &PendingMoof,
     moof_totals: MoofTotals,
-    header: &Header,
     tracks: &TrackList,
     cut: &Cut,
     tally: &mut Tally,
@@ -64,20 +64,18 @@ fn begin_recut<W: Sink>(
     w: &mut W,
 ) -> Result<Media, Failed>
     requires pending_moof { IsPendingMoof (Some tracks.now) pending_moof.now }
-    requires room { HasRoom header.now.size header.now.header_len }
-    requires good { fragment_fault (splitting cut.now) (recut_fragment pending_moof.now tracks.now
-        (tally.old.fragments + 1) header.now) ≡ None }
     requires cut { AreCut cut.now (moof_in pending_moof.now) tracks.now }
-    requires numbers { tally.old.fragments + 1 + length (output_fragments cut.now (recut_fragment
-        pending_moof.now tracks.now (tally.old.fragments + 1) header.now)) ≤ 2 ^ 32 }
+    requires numbers { tally.old.fragments + 1 + length (runs_fragments cut.now pending_moof.now.moof.bytes
+        tracks.now (tally.old.fragments + 1) (taken_runs (moof_in pending_moof.now) tracks.now)) ≤ 2 ^ 32 }
     requires samples { moof_totals.samples ≡ moof_samples (moof_in pending_moof.now) }
     requires bytes { moof_totals.bytes ≡ sum_by (λ (run : Run). run.bytes)
         (taken_runs (moof_in pending_moof.now) tracks.now) }
     requires few { tally.old.samples + moof_totals.samples < 2 ^ 128 }
     requires small { tally.old.media_bytes + moof_totals.bytes < 2 ^ 64 }
-    ensures { BeginsMedia cut.now (recut_fragment pending_moof.now tracks.now (tally.old.fragments + 1)
-        header.now) pending_moof.now (sent W.contents W.has_failed w.old w.new) out.old out.new
-        tally.old tally.new result }
+    ensures { (h : Header) → HasRoom h.size h.header_len → fragment_fault (splitting cut.now)
+        (recut_fragment pending_moof.now tracks.now (tally.old.fragments + 1) h) ≡ None →
+        BeginsMedia cut.now (recut_fragment pending_moof.now tracks.now (tally.old.fragments + 1) h)
+        pending_moof.now (sent W.contents W.has_failed w.old w.new) out.old out.new tally.old tally.new result }
 {
     tally.samples += u128::from(moof_totals.samples);
     tally.media_bytes += moof_totals.bytes;
@@ -193,7 +191,7 @@ pub(crate) fn begin_split<W: Sink>(
     }
     let needed = totals.needed;
     let tally = &mut counter.tally;
-    match begin_recut(&pending_moof, totals, header, tracks, cut, tally, out, w) {
+    match begin_recut(&pending_moof, totals, tracks, cut, tally, out, w) {
         Ok(media) => Ok(Split {
             pending_moof,
             media,

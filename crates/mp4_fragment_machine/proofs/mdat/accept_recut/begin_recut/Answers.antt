@@ -16,11 +16,10 @@ use Rattle.mp4_fragment_machine.proofs.mdat.accept_recut.begin_recut.Goals as go
 use Rattle.mp4_machine.proofs.ReadingAskLemmas.{same_tally}
 
 pub returns-in-Ok : goal.returns-in-Ok
-returns-in-Ok g c =
+returns-in-Ok g c = λ h room none.
     let w = c.args.pending_moof.now in
     let cut = c.args.cut.now in
     let tracks = c.args.tracks.now in
-    let h = c.args.header.now in
     let tally = c.args.tally.now in
     let number = tally.fragments + 1 in
     let f = recut_fragment w tracks number h in
@@ -35,7 +34,7 @@ returns-in-Ok g c =
     let next = writes_heads.next in
     let all = begun.all number in
     let after = w.moof.at + length w.moof.bytes in
-    let good : place_fault f.payload (moof_runs f.moof f.tracks) ≡ None = none-first (place_fault f.payload (moof_runs f.moof f.tracks)) _ c.requires.good in
+    let good : place_fault f.payload (moof_runs f.moof f.tracks) ≡ None = none-first (place_fault f.payload (moof_runs f.moof f.tracks)) _ none in
     let m = c.args.moof_totals in
     let counted : with_samples f tally n ≡ record tally { fragments = n; samples = tally.samples + c.from.result; media_bytes = tally.media_bytes + m.bytes } =
     same_tally (omega arith) (omega (arith, c.from.ensures, c.requires.samples)) (omega (arith, c.requires.bytes)) (omega arith) in
@@ -44,7 +43,7 @@ returns-in-Ok g c =
       begun = record {
         media = record { pending_moof = c.requires.pending_moof; are_cut = c.requires.cut; at = next.at; no_head_ready = next.no_head_ready; numbers = omega (arith, next.numbers, ap length all, c.requires.numbers) };
         rises = λ end ends.
-            let up = spans_ascend cut f w.runs c.requires.pending_moof.list (all_each (IsRunOf f.moof.bytes) (taken_runs (moof_in w) tracks) (all-runs cut w.moof.bytes (taken_runs (moof_in w) tracks) c.requires.cut)) good end (room-in after h.header_len h.size end c.requires.room ends) ends in
+            let up = spans_ascend cut f w.runs c.requires.pending_moof.list (all_each (IsRunOf f.moof.bytes) (taken_runs (moof_in w) tracks) (all-runs cut w.moof.bytes (taken_runs (moof_in w) tracks) c.requires.cut)) good end (room-in after h.header_len h.size end room ends) ends in
             writes_heads.rises f.payload.start end (rises-all f.payload.start end first.copy_span.place first.copy_span.left ps begun.left (subst (Ascends f.payload.start end) (sym all) up));
         numbers = omega (arith, next.numbers, ap length all, runs_length cut w.moof.bytes tracks number (taken_runs (moof_in w) tracks));
       };
@@ -53,13 +52,13 @@ returns-in-Ok g c =
     }
 
 pub returns-in-Err : goal.returns-in-Err
-returns-in-Err g c =
+returns-in-Err g c = λ h room none.
     let w = c.args.pending_moof.now in
     let cut = c.args.cut.now in
     let tracks = c.args.tracks.now in
     let tally = c.args.tally.now in
     let number = tally.fragments + 1 in
-    let f = recut_fragment w tracks number c.args.header.now in
+    let f = recut_fragment w tracks number h in
     let first = c.begin-media.result in
     let n = c.write_ready_heads.new.fragments in
     let a = g.W.Sink.contents c.args.w.now in

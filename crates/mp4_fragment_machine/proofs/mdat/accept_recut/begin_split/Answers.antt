@@ -74,16 +74,6 @@ add_up_runs-totals-requires-clause-good g c =
     let same : c.offset.result + c.size.result ≡ w.moof.at + length w.moof.bytes = omega (arith, c.offset.ensures.at, c.size.ensures, c.requires.pending_moof.size) in
     subst (λ p. place_fault p (moof_runs (moof_in w) tracks) ≡ None) (sym (payload-of c.payload_of.result (context w.moof.at (Some tracks) 1) tracks w.moof.bytes _ c.args.header.now same c.payload_of.ensures.start c.payload_of.ensures.end)) (c.in-Ok.ensures.good 1)
 
-pub begin_recut-requires-clause-good : goal.begin_recut-requires-clause-good
-begin_recut-requires-clause-good g c =
-    let w = c.args.pending_moof in
-    let tracks = c.args.tracks.now in
-    let number = c.args.counter.now.tally.fragments + 1 in
-    let cut = c.args.cut.now in
-    let f = recut_fragment w tracks number c.args.header.now in
-    let room = c.in-Ok-check_fragment.ensures.fault in
-    ap (λ e. option_or e (room_fault cut f.moof (moof_runs f.moof f.tracks) f.number)) (c.in-Ok.ensures.good number) ∙ sym room
-
 pub returns-in-Ok-begin_recut : goal.returns-in-Ok-begin_recut
 returns-in-Ok-begin_recut g c = λ header_bytes len is_header.
     let w = c.args.pending_moof in
@@ -100,7 +90,7 @@ returns-in-Ok-begin_recut g c = λ header_bytes len is_header.
     let measured = c.add_up_runs-totals.ensures in
     let some : 0 < h.header_len = omega (arith, (whole_is header_bytes h is_header).1, need-least header_bytes) in
     let new : Counter = record { tally = c.begin_recut.new.tally; steps = c.check_fragment.new.steps } in
-    let has = c.in-Ok-begin_recut.ensures in
+    let has = c.in-Ok-begin_recut.ensures h c.requires.room good in
     let counted = counted_begun (w.moof.at + w.moof.size) _ (moof_samples (moof_in w)) c.add_up_runs-totals.result.samples c.add_up_runs-totals.result.bytes h c.payload_of.result at c.payload_of.ensures.start c.payload_of.ensures.end c.requires.room some c.in-Ok.ensures.near measured.within measured.open measured.samples measured.few
     cut old new _ has.counted.few has.counted.tally measured.bytes c.in-Ok-check_fragment.ensures.least c.check_fragment.ensures.most in
     let first : c.payload_of.result.start ≡ f.payload.start = omega (arith, at, c.payload_of.ensures.start, c.requires.pending_moof.size) in
@@ -131,7 +121,7 @@ returns-in-Err-begin_recut g c = λ header_bytes len is_header.
     let measured = c.add_up_runs-totals.ensures in
     let some : 0 < h.header_len = omega (arith, (whole_is header_bytes h is_header).1, need-least header_bytes) in
     let new : Counter = record { tally = c.begin_recut.new.tally; steps = c.check_fragment.new.steps } in
-    let fails = c.in-Err-begin_recut.ensures in
+    let fails = c.in-Err-begin_recut.ensures h c.requires.room good in
     let counted = counted_begun (w.moof.at + w.moof.size) _ (moof_samples (moof_in w)) c.add_up_runs-totals.result.samples c.add_up_runs-totals.result.bytes h c.payload_of.result at c.payload_of.ensures.start c.payload_of.ensures.end c.requires.room some c.in-Ok.ensures.near measured.within measured.open measured.samples measured.few
     cut old new _ fails.counted.few fails.counted.tally measured.bytes c.in-Ok-check_fragment.ensures.least c.check_fragment.ensures.most in
     let ledger = c.args.ledger.now in
