@@ -1,5 +1,5 @@
 -- What a Feeder's calls do to what an engine is.
-use Rattle.std.proofs.Common.{◌≡◌, ◌∙◌, ℕ, ◌+◌, List, ◌∷◌, ◌++◌, append_assoc, length, length-append, take, drop, Option, Some, None, Ok, Err, refl, sym, ap, subst, arith}
+use Rattle.std.proofs.Common.{◌≡◌, ◌∙◌, ℕ, ◌+◌, List, ◌∷◌, ◌++◌, append_assoc, length, length-append, take, drop, Option, Some, None, Ok, Err, refl, sym, ap, subst, arith, []}
 use Rattle.std.proofs.lemmas.List.{take-append-drop}
 use Rattle.std.proofs.lemmas.Option.{none-some}
 use Rattle.std.specs.Io.KnownBytes.{Appends}
@@ -15,7 +15,7 @@ use Rattle.mp4_recut.specs.Operations.{reads_of}
 use Rattle.mp4_stream.specs.declared.totals.Totals.{Totals}
 use Rattle.fmp4_c.specs.Answers.{Counted, answer_to, counted_of, fault_of, number_of, report_from}
 use Rattle.fmp4_c.specs.Calls.{Returns}
-use Rattle.fmp4_c.specs.Engines.{Fed, Finished, Holds, IsRefused, Run, Stopped, StopsIn, counted_in, report_of}
+use Rattle.fmp4_c.specs.Engines.{ChangesOutput, Gives, Fed, Finished, Holds, IsRefused, Run, Stopped, StopsIn, counted_in, report_of}
 use Rattle.fmp4_c.specs.Tasks.{Feeds, Finishes, IsAfter, WritesBefore, fragments_in, held_by, live, reading_of, stop_of, sums_of, task_of, totals_of}
 use Rattle.fmp4_c.specs.declared.answer.Answer.{Answer}
 use Rattle.fmp4_c.specs.declared.answer.Answer.TheVariants.{Done, NoRoom}
@@ -229,6 +229,21 @@ module _ (task : Task) (b given given' : List ℕ) (r r' : Run) (joined : given'
     written = stops-taken account h.feeding h.stop h.written;
     fragments = h.fragments ∙ ap (λ (x : List ℕ). whole_in (length x) 0 (reading_of task b).effects.fragment_ends) (sym joined);
   }
+
+-- nothing else was changed
+pub gives-out : (n : ℕ) (bytes : List ℕ) (r r' : Run) → bytes ≡ take n r.waiting.bytes → r'.waiting.bytes ≡ drop n r.waiting.bytes → ChangesOutput r r' → Gives n bytes r r'
+gives-out n bytes r r' front left kept =
+    let joined = λ (given : List ℕ). ap (λ (x : List ℕ). (given ++ x) ++ r'.waiting.bytes) front ∙ taken given r.waiting.bytes r.waiting.bytes r'.waiting.bytes n refl left in
+    record {
+      front = front;
+      left = left;
+      holds = λ task b given h. holds-taken task b given (given ++ bytes) r r' (joined given) kept.0 h;
+      stopped = λ task b given a h. stopped-taken task b given (given ++ bytes) r r' (joined given) kept.0 kept.2 a h;
+      kept = kept;
+    }
+
+pub gives-none : (r : Run) → Gives 0 [] r r
+gives-none r = gives-out 0 [] r r refl refl (refl, refl, refl, refl, refl, refl)
 
 -- ---- what is counted
 

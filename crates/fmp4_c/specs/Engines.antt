@@ -2,6 +2,8 @@
 use Rattle.std.specs.Prelude.{◌≡◌, if◌then◌else◌, ℕ, ◌+◌, ◌-◌, ◌*◌, ◌/◌, ◌^◌, ◌<◌, ◌≤◌, eqb, List, [], ◌∷◌, ◌++◌, length, take, drop, min, max, Option, None, Some}
 use Rattle.mp4_box.specs.declared.rules.Fault as faults
 use Rattle.mp4_boxes.specs.Boxes.{reading}
+use Rattle.mp4_grammar.specs.TrafRecords.{IsRecord, record_bytes, record_len, record_of}
+use Rattle.mp4_grammar.specs.declared.traf_record.TrafRecord.{TrafRecord}
 use Rattle.mp4_ledger.specs.Memory.{Account, limited}
 use Rattle.mp4_machine.specs.Fed.{sums_in}
 use Rattle.mp4_machine.specs.Readings.{AtMost, Request, decided_in, fault_in, greatest, most_of, whole_in}
@@ -17,6 +19,7 @@ use Rattle.fmp4_c.specs.Tasks.{IsAfter, IsEnough, fragments_in, held_by, live, p
 use Rattle.fmp4_c.specs.declared.report.Report.{Report}
 use Rattle.fmp4_c.specs.declared.results.Feed.{Feed}
 use Rattle.fmp4_c.specs.declared.results.FeedTake.{FeedTake}
+use Rattle.fmp4_c.specs.declared.results.Front.{Front}
 use Rattle.fmp4_c.specs.declared.task.Task.{Task}
 use Rattle.fmp4_c.specs.declared.task.Task.TheVariants as tasks
 use Rattle.fmp4_c.specs.declared.task_feeder.TaskFeeder.{TaskFeeder}
@@ -208,6 +211,41 @@ pub record FeedTakeClauses (r : Run) (input out out' : List ℕ) (did : FeedTake
   pub within : did.given ≤ length out'
   pub most : (p : TaskFeeder) → r.feeding ≡ Some p → (r.task ≡ record_listing → ⊥) → did.given < length out' → r'.waiting.bytes ≡ []
   pub kept : IsKept r r'
+
+-- ---- output that is taken
+
+-- nothing is changed but the bytes that wait
+abbrev pub ChangesOutput : (r r' : Run) → Type 0
+ChangesOutput r r' = (r'.feeding ≡ r.feeding) × (r'.waiting.room ≡ r.waiting.room) × (r'.account ≡ r.account) × (r'.share ≡ r.share) × (r'.reported ≡ r.reported) × (r'.task ≡ r.task)
+
+-- the front of the output, of so many bytes, is given out as these, and nothing else is changed
+pub record Gives (n : ℕ) (bytes : List ℕ) (r r' : Run) : Type 0 where
+  pub front : bytes ≡ take n r.waiting.bytes
+  pub left : r'.waiting.bytes ≡ drop n r.waiting.bytes
+  pub holds : (task : Task) → (b given : List ℕ) → Holds task b given r → Holds task b (given ++ bytes) r'
+  pub stopped : (task : Task) → (b given : List ℕ) → (a : Answer) → Stopped task b given a r → Stopped task b (given ++ bytes) a r'
+  pub kept : ChangesOutput r r'
+
+-- what a take does, into a buffer that was `out` and is `out'`
+pub record TakeClauses (r : Run) (out out' : List ℕ) (did : Front) (r' : Run) : Type 0 where
+  pub gives : Gives did.count (take did.count out') r r'
+  pub done : (r.task ≡ record_listing → ⊥) → did ≡ record { count = min (length out) (length r.waiting.bytes); answer = Done }
+  pub rest : drop did.count out' ≡ drop did.count out
+  pub records : r.task ≡ record_listing → (did ≡ record { count = 0; answer = BadListing }) × (r' ≡ r)
+
+-- what a skip of so many bytes does
+pub record SkipClauses (r : Run) (count : ℕ) (did : Front) (r' : Run) : Type 0 where
+  pub gives : Gives did.count (take did.count r.waiting.bytes) r r'
+  pub done : (r.task ≡ record_listing → ⊥) → did ≡ record { count = min count (length r.waiting.bytes); answer = Done }
+  pub records : r.task ≡ record_listing → (did ≡ record { count = 0; answer = BadListing }) × (r' ≡ r)
+
+-- what is done where a record is asked for
+pub record NextFragmentClauses (r : Run) (fragment fragment' : TrafRecord) (answer : Answer) (r' : Run) : Type 0 where
+  pub gives : r.task ≡ record_listing → record_len ≤ length r.waiting.bytes → (answer ≡ Done) × (fragment' ≡ record_of (take record_len r.waiting.bytes)) × Gives record_len (take record_len r.waiting.bytes) r r'
+  pub again : (t : TrafRecord) (rest : List ℕ) → IsRecord t → r.task ≡ record_listing → r.waiting.bytes ≡ record_bytes t ++ rest → fragment' ≡ t
+  pub none : r.task ≡ record_listing → length r.waiting.bytes < record_len → (answer ≡ NoRecord) × (r' ≡ r) × (fragment' ≡ fragment)
+  pub other : (r.task ≡ record_listing → ⊥) → (answer ≡ BadListing) × (r' ≡ r) × (fragment' ≡ fragment)
+  pub kept : ChangesOutput r r'
 
 -- ---- the limit, and another stream
 

@@ -6,7 +6,7 @@ ghost use Rattle.mp4_grammar.specs.TrafRecords.{IsRecord, record_bytes, record_l
 ghost use Rattle.mp4_machine.specs.declared.stop.Stop as stops;
 ghost use Rattle.fmp4_c.specs.Answers.{answer_to, number_of};
 ghost use Rattle.fmp4_c.specs.Calls.{IsOpened};
-ghost use Rattle.fmp4_c.specs.Engines.{FeedClauses, FeedTakeClauses, Finished, Holds, IsReset, Stopped};
+ghost use Rattle.fmp4_c.specs.Engines.{FeedClauses, FeedTakeClauses, Finished, Holds, IsReset, NextFragmentClauses, SkipClauses, TakeClauses};
 ghost use Rattle.fmp4_c.specs.Engines.{held_in, limited_to, report_of, step_of};
 ghost use Rattle.fmp4_c.specs.Tasks.{record_listing, stop_of};
 ghost use Rattle.fmp4_c.specs.declared.answer.Answer as answers;
@@ -215,20 +215,7 @@ impl Engine {
 
     /// Drops output from the front. Of records none is dropped.
     pub fn skip(&mut self, count: usize) -> Front
-        ensures holds { (task : Task) → (b given : List ℕ) → Holds task b given self.old →
-            Holds task b (given ++ take result.count self.old.waiting.bytes) self.new }
-        ensures stopped { (task : Task) → (b given : List ℕ) → (a : answers.Answer) →
-            Stopped task b given a self.old →
-            Stopped task b (given ++ take result.count self.old.waiting.bytes) a self.new }
-        ensures done { (self.old.task ≡ record_listing → ⊥) → result ≡ record
-            { count = min count (length self.old.waiting.bytes); answer = Answer.Done } }
-        ensures left { self.new.waiting.bytes ≡ drop result.count self.old.waiting.bytes }
-        ensures records { self.old.task ≡ record_listing →
-            (result ≡ record { count = 0; answer = Answer.BadListing }) × (self.new ≡ self.old) }
-        ensures kept { (self.new.feeding ≡ self.old.feeding) ×
-            (self.new.waiting.room ≡ self.old.waiting.room) ×
-            (self.new.account ≡ self.old.account) × (self.new.share ≡ self.old.share) ×
-            (self.new.reported ≡ self.old.reported) × (self.new.task ≡ self.old.task) }
+        ensures { SkipClauses self.old count result self.new }
     {
         if lists_records(self.task) {
             return Front::of_records();
@@ -238,22 +225,7 @@ impl Engine {
 
     /// Takes output from the front. Of records none is taken.
     pub fn take(&mut self, out: &mut [u8]) -> Front
-        ensures holds { (task : Task) → (b given : List ℕ) → Holds task b given self.old →
-            Holds task b (given ++ take result.count out.new) self.new }
-        ensures stopped { (task : Task) → (b given : List ℕ) → (a : answers.Answer) →
-            Stopped task b given a self.old →
-            Stopped task b (given ++ take result.count out.new) a self.new }
-        ensures done { (self.old.task ≡ record_listing → ⊥) → result ≡ record
-            { count = min (length out.old) (length self.old.waiting.bytes); answer = Answer.Done } }
-        ensures front { take result.count out.new ≡ take result.count self.old.waiting.bytes }
-        ensures left { self.new.waiting.bytes ≡ drop result.count self.old.waiting.bytes }
-        ensures rest { drop result.count out.new ≡ drop result.count out.old }
-        ensures records { self.old.task ≡ record_listing →
-            (result ≡ record { count = 0; answer = Answer.BadListing }) × (self.new ≡ self.old) }
-        ensures kept { (self.new.feeding ≡ self.old.feeding) ×
-            (self.new.waiting.room ≡ self.old.waiting.room) ×
-            (self.new.account ≡ self.old.account) × (self.new.share ≡ self.old.share) ×
-            (self.new.reported ≡ self.old.reported) × (self.new.task ≡ self.old.task) }
+        ensures { TakeClauses self.old out.old out.new result self.new }
     {
         if lists_records(self.task) {
             return Front::of_records();
@@ -264,26 +236,7 @@ impl Engine {
     /// Takes a record from the front of the output of a stream that is listed by records. Where none waits, and where
     /// the stream is another, nothing is taken.
     pub fn next_fragment(&mut self, fragment: &mut TrafRecord) -> Answer
-        ensures gives { self.old.task ≡ record_listing → record_len ≤ length self.old.waiting.bytes →
-            (result ≡ Answer.Done) × (fragment.new ≡ record_of (take record_len self.old.waiting.bytes)) ×
-            (self.new.waiting.bytes ≡ drop record_len self.old.waiting.bytes) }
-        ensures again { (t : TrafRecord) (rest : List ℕ) → IsRecord t → self.old.task ≡ record_listing →
-            self.old.waiting.bytes ≡ record_bytes t ++ rest → fragment.new ≡ t }
-        ensures holds { (task : Task) → (b given : List ℕ) → Holds task b given self.old →
-            self.old.task ≡ record_listing → record_len ≤ length self.old.waiting.bytes →
-            Holds task b (given ++ take record_len self.old.waiting.bytes) self.new }
-        ensures stopped { (task : Task) → (b given : List ℕ) → (a : answers.Answer) →
-            Stopped task b given a self.old → self.old.task ≡ record_listing →
-            record_len ≤ length self.old.waiting.bytes →
-            Stopped task b (given ++ take record_len self.old.waiting.bytes) a self.new }
-        ensures none { self.old.task ≡ record_listing → length self.old.waiting.bytes < record_len →
-            (result ≡ Answer.NoRecord) × (self.new ≡ self.old) × (fragment.new ≡ fragment.old) }
-        ensures other { (self.old.task ≡ record_listing → ⊥) →
-            (result ≡ Answer.BadListing) × (self.new ≡ self.old) × (fragment.new ≡ fragment.old) }
-        ensures kept { (self.new.feeding ≡ self.old.feeding) ×
-            (self.new.waiting.room ≡ self.old.waiting.room) ×
-            (self.new.account ≡ self.old.account) × (self.new.share ≡ self.old.share) ×
-            (self.new.reported ≡ self.old.reported) × (self.new.task ≡ self.old.task) }
+        ensures { NextFragmentClauses self.old fragment.old fragment.new result self.new }
     {
         if !lists_records(self.task) {
             return Answer::BadListing;

@@ -3,8 +3,8 @@
 ghost use Rattle.std.specs.Prelude.{◌≡◌, ℕ, ◌<◌, ◌≤◌, List, [], ◌++◌, length, take, drop, min, None, Some, IfSome, IsSome};
 ghost use Rattle.mp4_machine.specs.declared.stop.Stop as stops;
 ghost use Rattle.fmp4_c.specs.Answers.{answer_to, at_rest, number_of, report_from};
-ghost use Rattle.fmp4_c.specs.Calls.{FinishedIn, HoldsIn, Returns, StoppedIn};
-ghost use Rattle.fmp4_c.specs.Engines.{FeedClauses, FeedTakeClauses, Run, counted_in, report_of};
+ghost use Rattle.fmp4_c.specs.Calls.{FinishedIn, HoldsIn, Returns};
+ghost use Rattle.fmp4_c.specs.Engines.{FeedClauses, FeedTakeClauses, Run, TakeClauses, counted_in, report_of};
 ghost use Rattle.fmp4_c.specs.Tasks.{record_listing, stop_of};
 ghost use Rattle.fmp4_c.specs.declared.answer.Answer as answers;
 ghost use Rattle.fmp4_c.specs.declared.task.Task.{Task};
@@ -92,29 +92,10 @@ pub extern "C" fn fmp4_take(
     out: &mut [u8],
     taken: &mut usize,
 ) -> u32
-    ensures holds { (task : Task) → (b given : List ℕ) →
-        HoldsIn task b given stream.old.handle.held →
-        HoldsIn task b (given ++ take taken.new out.new) stream.new.handle.held }
-    ensures stopped { (task : Task) → (b given : List ℕ) → (a : answers.Answer) →
-        StoppedIn task b given a stream.old.handle.held →
-        StoppedIn task b (given ++ take taken.new out.new) a stream.new.handle.held }
-    ensures done { (r : Run) → stream.old.handle.held ≡ Some r → (r.task ≡ record_listing → ⊥) →
-        (result ≡ number_of Answer.Done) ×
-        (taken.new ≡ min (length out.old) (length r.waiting.bytes)) }
-    ensures records { (r : Run) → stream.old.handle.held ≡ Some r → r.task ≡ record_listing →
-        (result ≡ number_of Answer.BadListing) × (taken.new ≡ 0) × (stream.new.handle.held ≡ Some r) }
-    ensures front { (r : Run) → stream.old.handle.held ≡ Some r →
-        take taken.new out.new ≡ take taken.new r.waiting.bytes }
-    ensures open { (r : Run) → stream.old.handle.held ≡ Some r → IsSome stream.new.handle.held }
-    ensures left { (r : Run) → stream.old.handle.held ≡ Some r →
-        IfSome stream.new.handle.held (λ r'. r'.waiting.bytes ≡ drop taken.new r.waiting.bytes) }
-    ensures rest { drop taken.new out.new ≡ drop taken.new out.old }
-    ensures kept { (r : Run) → stream.old.handle.held ≡ Some r →
-        IfSome stream.new.handle.held (λ r'. (r'.feeding ≡ r.feeding) ×
-        (r'.waiting.room ≡ r.waiting.room) × (r'.account ≡ r.account) × (r'.share ≡ r.share) ×
-        (r'.reported ≡ r.reported) × (r'.task ≡ r.task)) }
+    ensures open { (r : Run) → stream.old.handle.held ≡ Some r → Returns result stream.new.handle.held
+        (λ answer r'. TakeClauses r out.old out.new (record { count = taken.new; answer = answer }) r') }
     ensures closed { stream.old.handle.held ≡ None →
-        (result ≡ number_of (at_rest stream.old.closed)) × (taken.new ≡ 0) ×
+        (result ≡ number_of (at_rest stream.old.closed)) × (taken.new ≡ 0) × (out.new ≡ out.old) ×
         (stream.new.handle.held ≡ None) }
     ensures rests { stream.new.closed ≡ stream.old.closed }
 {

@@ -3,8 +3,8 @@
 ghost use Rattle.std.specs.Prelude.{◌≡◌, ℕ, ◌<◌, ◌≤◌, List, ◌++◌, length, take, drop, None, Some, IfSome};
 ghost use Rattle.mp4_grammar.specs.TrafRecords.{IsRecord, record_bytes, record_len, record_of};
 ghost use Rattle.fmp4_c.specs.Answers.{at_rest, number_of};
-ghost use Rattle.fmp4_c.specs.Calls.{HoldsIn, StoppedIn};
-ghost use Rattle.fmp4_c.specs.Engines.{Run};
+ghost use Rattle.fmp4_c.specs.Calls.{Returns};
+ghost use Rattle.fmp4_c.specs.Engines.{NextFragmentClauses, Run};
 ghost use Rattle.fmp4_c.specs.Tasks.{record_listing};
 ghost use Rattle.fmp4_c.specs.declared.answer.Answer as answers;
 ghost use Rattle.fmp4_c.specs.declared.task.Task.{Task};
@@ -23,31 +23,8 @@ pub extern "C" fn fmp4_next_fragment(
     stream: &mut Stream,
     fragment: &mut TrafRecord,
 ) -> u32
-    ensures gives { (r : Run) → stream.old.handle.held ≡ Some r → r.task ≡ record_listing →
-        record_len ≤ length r.waiting.bytes → (result ≡ number_of Answer.Done) ×
-        (fragment.new ≡ record_of (take record_len r.waiting.bytes)) ×
-        IfSome stream.new.handle.held (λ r'. r'.waiting.bytes ≡ drop record_len r.waiting.bytes) }
-    ensures again { (r : Run) (t : TrafRecord) (rest : List ℕ) → IsRecord t → stream.old.handle.held ≡ Some r →
-        r.task ≡ record_listing → r.waiting.bytes ≡ record_bytes t ++ rest →
-        fragment.new ≡ t }
-    ensures holds { (task : Task) → (b given : List ℕ) → (r : Run) →
-        stream.old.handle.held ≡ Some r → HoldsIn task b given stream.old.handle.held →
-        r.task ≡ record_listing → record_len ≤ length r.waiting.bytes →
-        HoldsIn task b (given ++ take record_len r.waiting.bytes) stream.new.handle.held }
-    ensures stopped { (task : Task) → (b given : List ℕ) → (a : answers.Answer) → (r : Run) →
-        stream.old.handle.held ≡ Some r → StoppedIn task b given a stream.old.handle.held →
-        r.task ≡ record_listing → record_len ≤ length r.waiting.bytes →
-        StoppedIn task b (given ++ take record_len r.waiting.bytes) a stream.new.handle.held }
-    ensures none { (r : Run) → stream.old.handle.held ≡ Some r → r.task ≡ record_listing →
-        length r.waiting.bytes < record_len → (result ≡ number_of Answer.NoRecord) ×
-        (stream.new.handle.held ≡ Some r) × (fragment.new ≡ fragment.old) }
-    ensures other { (r : Run) → stream.old.handle.held ≡ Some r → (r.task ≡ record_listing → ⊥) →
-        (result ≡ number_of Answer.BadListing) × (stream.new.handle.held ≡ Some r) ×
-        (fragment.new ≡ fragment.old) }
-    ensures kept { (r : Run) → stream.old.handle.held ≡ Some r →
-        IfSome stream.new.handle.held (λ r'. (r'.feeding ≡ r.feeding) ×
-        (r'.waiting.room ≡ r.waiting.room) × (r'.account ≡ r.account) × (r'.share ≡ r.share) ×
-        (r'.reported ≡ r.reported) × (r'.task ≡ r.task)) }
+    ensures open { (r : Run) → stream.old.handle.held ≡ Some r → Returns result stream.new.handle.held
+        (λ answer r'. NextFragmentClauses r fragment.old fragment.new answer r') }
     ensures closed { stream.old.handle.held ≡ None →
         (result ≡ number_of (at_rest stream.old.closed)) × (fragment.new ≡ fragment.old) ×
         (stream.new.handle.held ≡ None) }

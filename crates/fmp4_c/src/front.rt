@@ -2,8 +2,8 @@
 
 ghost use Rattle.std.specs.Prelude.{◌≡◌, ℕ, List, ◌++◌, length, take, drop, min, None, Some, IfSome, IsSome};
 ghost use Rattle.fmp4_c.specs.Answers.{at_rest, number_of};
-ghost use Rattle.fmp4_c.specs.Calls.{HoldsIn, StoppedIn};
-ghost use Rattle.fmp4_c.specs.Engines.{Holds, Run, Stopped};
+ghost use Rattle.fmp4_c.specs.Calls.{Returns};
+ghost use Rattle.fmp4_c.specs.Engines.{Run, SkipClauses};
 ghost use Rattle.fmp4_c.specs.Tasks.{record_listing};
 ghost use Rattle.fmp4_c.specs.declared.answer.Answer as answers;
 ghost use Rattle.fmp4_c.specs.declared.task.Task.{Task};
@@ -59,23 +59,8 @@ pub extern "C" fn fmp4_skip(
     most: usize,
     count: &mut usize,
 ) -> u32
-    ensures holds { (task : Task) → (b given : List ℕ) → (r : Run) →
-        stream.old.handle.held ≡ Some r → Holds task b given r →
-        HoldsIn task b (given ++ take count.new r.waiting.bytes) stream.new.handle.held }
-    ensures stopped { (task : Task) → (b given : List ℕ) → (a : answers.Answer) → (r : Run) →
-        stream.old.handle.held ≡ Some r → Stopped task b given a r →
-        StoppedIn task b (given ++ take count.new r.waiting.bytes) a stream.new.handle.held }
-    ensures done { (r : Run) → stream.old.handle.held ≡ Some r → (r.task ≡ record_listing → ⊥) →
-        (result ≡ number_of Answer.Done) × (count.new ≡ min most (length r.waiting.bytes)) }
-    ensures open { (r : Run) → stream.old.handle.held ≡ Some r → IsSome stream.new.handle.held }
-    ensures left { (r : Run) → stream.old.handle.held ≡ Some r →
-        IfSome stream.new.handle.held (λ r'. r'.waiting.bytes ≡ drop count.new r.waiting.bytes) }
-    ensures records { (r : Run) → stream.old.handle.held ≡ Some r → r.task ≡ record_listing →
-        (result ≡ number_of Answer.BadListing) × (count.new ≡ 0) × (stream.new.handle.held ≡ Some r) }
-    ensures kept { (r : Run) → stream.old.handle.held ≡ Some r →
-        IfSome stream.new.handle.held (λ r'. (r'.feeding ≡ r.feeding) ×
-        (r'.waiting.room ≡ r.waiting.room) × (r'.account ≡ r.account) × (r'.share ≡ r.share) ×
-        (r'.reported ≡ r.reported) × (r'.task ≡ r.task)) }
+    ensures open { (r : Run) → stream.old.handle.held ≡ Some r → Returns result stream.new.handle.held
+        (λ answer r'. SkipClauses r most (record { count = count.new; answer = answer }) r') }
     ensures closed { stream.old.handle.held ≡ None →
         (result ≡ number_of (at_rest stream.old.closed)) × (count.new ≡ 0) ×
         (stream.new.handle.held ≡ None) }
