@@ -1,5 +1,5 @@
 -- The counts of a fragment that is checked or listed, and whole in the input, whatever runs it has.
-use Rattle.std.proofs.Common.{◌≡◌, ◌∙◌, ℕ, ◌+◌, ◌≤◌, List, drop, length, Some, ap, arith, subst, sym, refl}
+use Rattle.std.proofs.Common.{◌≡◌, ℕ, ◌+◌, ◌*◌, ◌≤◌, List, drop, length, Some, ap, arith, subst, sym, refl}
 use Rattle.mp4_box.proofs.HeaderLemmas.{need-least, whole_is}
 use Rattle.mp4_frag.specs.Moofs.{moof_samples}
 use Rattle.mp4_traf.specs.Runs.{MoofBytes, moof_at}
@@ -15,7 +15,7 @@ use Rattle.mp4_fragment_machine.specs.Implementation.InPlace.{AreBoxes, payload_
 use Rattle.mp4_fragment_machine.specs.declared.counter.Counter.{Counter}
 use Rattle.mp4_fragment_machine.specs.declared.in_place.Boxes.{Boxes}
 use Rattle.mp4_fragment_machine.proofs.CountLemmas.{counted_emitted, counted_moof}
-use Rattle.mp4_fragment_machine.proofs.FragmentLemmas.{first_fits, inspected_more, moof_len, some_moof}
+use Rattle.mp4_fragment_machine.proofs.FragmentLemmas.{first_fits, moof_len, some_moof}
 
 module _ (at : ℕ) (input : List ℕ) (b : Boxes) (are : AreBoxes at input b) where
   -- bytes that lie in the payload of its mdat lie in the mdat
@@ -31,15 +31,14 @@ module _ (at : ℕ) (input : List ℕ) (b : Boxes) (are : AreBoxes at input b) w
   h = moof_at b.moof.now at
 
   -- it is counted; its samples wait for its end
-  pub counted_check : (command : Command) (c c' : Counter) (n k bytes : ℕ) → IsCounted (operations.List command) c at 0 0 → n ≡ moof_samples (moof_at b.moof.now at) → k ≡ moof_samples (moof_at b.moof.now at) → k ≤ 1000000 → at + are.span.size + bytes + 8 ≤ at + are.span.size + b.mdat.size
-      → c'.tally ≡ plus (record c.tally { inspected = c.tally.inspected + n }) (accepts k bytes)
-      → c'.steps.rows ≡ c.steps.rows + (k + k) + listed_by (operations.List command) k → IsCounted (operations.List command) c' (at + length b.moof.now + b.mdat.size) 0 (moof_samples (moof_at b.moof.now at))
-  counted_check command c c' n k bytes i all same few fits tally rows =
+  pub counted_whole : (command : Command) (c c' : Counter) (bytes : ℕ) → IsCounted (operations.List command) c at 0 0 → moof_samples (moof_at b.moof.now at) ≤ 1000000 → at + are.span.size + bytes + 8 ≤ at + are.span.size + b.mdat.size
+      → c'.tally ≡ plus (plus c.tally (inspected (moof_at b.moof.now at))) (accepts (moof_samples (moof_at b.moof.now at)) bytes)
+      → c'.steps.rows ≡ c.steps.rows + 2 * moof_samples (moof_at b.moof.now at) + listed_by (operations.List command) (moof_samples (moof_at b.moof.now at)) → IsCounted (operations.List command) c' (at + length b.moof.now + b.mdat.size) 0 (moof_samples (moof_at b.moof.now at))
+  counted_whole command c c' bytes i few fits tally rows =
+      let k = moof_samples h in
       let c1 : Counter = record { tally = plus c.tally (inspected h); steps = record { rows = c.steps.rows + (k + k) } } in
       let near : at + are.span.size ≤ longest = are.moof.near in
-      let waits : IsCounted (operations.List command) c1 (at + are.span.size) k k = counted_moof (operations.List command) c c1 h at are.span.size (k + k) k i (some_moof at input b are) near (omega (arith, same, few)) refl refl (omega (arith, same)) (omega (arith, same)) in
-      let sum = tally ∙ ap (λ t. plus t (accepts k bytes)) (inspected_more c.tally h n all) in
+      let waits : IsCounted (operations.List command) c1 (at + are.span.size) k k = counted_moof (operations.List command) c c1 h at are.span.size (k + k) k i (some_moof at input b are) near few refl refl (omega arith) (omega arith) in
       let effects : IsCounted (operations.List command) c' (at + are.span.size + b.mdat.size) 0 k = counted_emitted command c1 c' (at + are.span.size) (at + are.span.size + b.mdat.size) k bytes waits few
-      (omega (arith, fits), omega (arith, fits), omega (arith, are.mdat.near)) sum (omega (arith, rows)) in
-      subst (λ z. IsCounted (operations.List command) c' (at + z + b.mdat.size) 0 (moof_samples h)) (sym (moof_len at input b are))
-      (subst (λ z. IsCounted (operations.List command) c' (at + are.span.size + b.mdat.size) 0 z) same effects)
+      (omega (arith, fits), omega (arith, fits), omega (arith, are.mdat.near)) tally (omega (arith, rows)) in
+      subst (λ z. IsCounted (operations.List command) c' (at + z + b.mdat.size) 0 k) (sym (moof_len at input b are)) effects

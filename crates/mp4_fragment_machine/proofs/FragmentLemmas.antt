@@ -3,7 +3,7 @@ use Rattle.std.proofs.Common.{◌≡◌, ◌∙◌, ℕ, ◌+◌, ◌*◌, ◌<�
 use Rattle.std.proofs.lemmas.List.{length-drop, length-take-le}
 use Rattle.std.proofs.lemmas.List.Sums.{sum_by-cons}
 use Rattle.std.specs.Prelude.{option_map}
-use Rattle.std.specs.List.{flat_map}
+use Rattle.std.specs.List.{flat_map, sum_by}
 use Rattle.std.specs.Option.{option_or}
 use Rattle.mp4_ledger.specs.Memory.{Account, claimed, given_back}
 use Rattle.mp4_init.specs.Tracks.{with_next}
@@ -34,23 +34,18 @@ use Rattle.mp4_grammar.specs.Commands.{accepted, command_meaning}
 use Rattle.mp4_grammar.specs.Items.{end_of, fragment, inspected}
 use Rattle.mp4_grammar.specs.Kinds.{most_moof}
 use Rattle.mp4_grammar.specs.Meanings.{Fragment, counted_in, fragment_fault}
-use Rattle.mp4_grammar.specs.Contexts.{Context, context}
+use Rattle.mp4_grammar.specs.Contexts.{context}
 use Rattle.mp4_grammar.specs.Samples.{sample_lines, samples_of_run}
-use Rattle.mp4_recut.specs.declared.operation.Operation.TheVariants as operations
 use Rattle.mp4_grammar.specs.declared.command.Command.{Command}
-use Rattle.mp4_grammar.specs.declared.command.Command.TheVariants.{Samples}
 use Rattle.mp4_grammar.specs.declared.kinds.Kind.{Kind}
 use Rattle.mp4_grammar.specs.declared.kinds.Kind.TheVariants.{Moof, Mdat}
 use Rattle.mp4_machine.specs.Bodies.{longest}
 use Rattle.mp4_machine.specs.Blocks.{Breaks, Passes, Pending}
 use Rattle.mp4_machine.specs.Inputs.{Environment, GoesOn, StopsAt, environment}
-use Rattle.mp4_machine.specs.Readings.{plus, accepts}
+use Rattle.mp4_machine.specs.Readings.{plus}
 use Rattle.mp4_machine.specs.declared.stop.Stop.TheVariants.{Write}
 use Rattle.mp4_machine.specs.declared.tally.Tally.{Tally}
 use Rattle.mp4_fragment_machine.specs.Places.{InHeader, continuation_at}
-use Rattle.mp4_fragment_machine.specs.States.{IsCounted, listed_by}
-use Rattle.mp4_fragment_machine.specs.declared.counter.Counter.{Counter}
-use Rattle.mp4_fragment_machine.proofs.CountLemmas.{counted_emitted, counted_later, counted_moof}
 use Rattle.mp4_fragment_machine.specs.Implementation.InPlace.{AreBoxes, IsFirstBox, IsFragment, payload_in}
 use Rattle.mp4_fragment_machine.specs.declared.in_place.Boxes.{Boxes}
 use Rattle.mp4_fragment_machine.specs.declared.in_place.Span.{Span}
@@ -115,11 +110,12 @@ module _ (h : MoofBytes) (tracks : List Track) (l : SingleRun) (single_run : IsS
   single_is = ranged_run h tracks single_run.read [] [] l.run (record { is = single_run.run }) single_run.range
 
   -- its lines are those of the run
-  pub single_text : (c : Context) (g : Header) → h ≡ (fragment c tracks h.bytes g).moof → (accepted Samples (fragment c tracks h.bytes g)).text ≡ sample_lines (samples_of_run h.bytes l.run)
-  single_text c g same =
-      let f = fragment c tracks h.bytes g in
-      ap (λ runs. sample_lines (flat_map (samples_of_run h.bytes) runs)) (ap (λ k. taken_runs k tracks) (sym same) ∙ one_taken)
-      ∙ ap sample_lines (append-nil (samples_of_run h.bytes l.run))
+  pub single_lines : sample_lines (flat_map (samples_of_run h.bytes) (taken_runs h tracks)) ≡ sample_lines (samples_of_run h.bytes l.run)
+  single_lines = ap (λ runs. sample_lines (flat_map (samples_of_run h.bytes) runs)) one_taken ∙ ap sample_lines (append-nil (samples_of_run h.bytes l.run))
+
+  -- and so are its bytes
+  pub single_bytes : sum_by (λ (run : Run). run.bytes) (taken_runs h tracks) ≡ l.run.bytes
+  single_bytes = let one = ap (sum_by (λ (run : Run). run.bytes)) one_taken in omega (arith, one, sum_by-cons (λ (run : Run). run.bytes) l.run [])
 
 module _ (at : ℕ) (input : List ℕ) (b : Boxes) (are : AreBoxes at input b) where
   pub moof_len : length b.moof.now ≡ are.span.size
@@ -232,22 +228,6 @@ module _ (at : ℕ) (tracks : List Track) (input : List ℕ) (b : Boxes) (l : Si
       let w = whole_is (drop is.boxes.span.size input) is.boxes.mdat.header is.boxes.mdat.is in
       let last = single_fits (payload_in (at + is.boxes.span.size) b.mdat) l.run is.is_placed b.moof.now (at + is.boxes.span.size + b.mdat.size) refl (omega (arith, room)) run_is in
       omega (arith, last, w.1, need-least (drop is.boxes.span.size input), is.boxes.mdat.header_len)
-
-  -- it is counted, and no sample waits
-  pub counted_in_place : (command : Command) (c c' : Counter) (n k : ℕ) → IsCounted (operations.List command) c at 0 0 → n ≡ l.run.count → k ≡ l.run.count
-      → c'.tally ≡ plus (record c.tally { inspected = c.tally.inspected + n }) (accepts k l.run.bytes)
-      → c'.steps.rows ≡ c.steps.rows + 2 * k + listed_by (operations.List command) k → IsCounted (operations.List command) c' (at + length b.moof.now + b.mdat.size) 0 0
-  counted_in_place command c c' n k i all one tally rows =
-      let h = moof_at b.moof.now at in
-      let few : k ≤ 1000000 = omega (arith, one, run_is.few) in
-      let same : k ≡ moof_samples h = one ∙ is.single_run.samples in
-      let c1 : Counter = record { tally = plus c.tally (inspected h); steps = record { rows = c.steps.rows + (k + k) } } in
-      let near : at + is.boxes.span.size ≤ longest = is.boxes.moof.near in
-      let waits : IsCounted (operations.List command) c1 (at + is.boxes.span.size) k k = counted_moof (operations.List command) c c1 h at is.boxes.span.size (k + k) k i (some_moof at input b is.boxes) near (omega (arith, same, few)) refl refl (omega (arith, same)) (omega (arith, same)) in
-      let sum = tally ∙ ap (λ t. plus t (accepts k l.run.bytes)) (inspected_more c.tally h n (all ∙ is.single_run.samples)) in
-      let effects : IsCounted (operations.List command) c' (at + is.boxes.span.size + b.mdat.size) 0 k = counted_emitted command c1 c' (at + is.boxes.span.size) (at + is.boxes.span.size + b.mdat.size) k l.run.bytes waits few
-      (omega (arith, media_fits), omega (arith, media_fits), omega (arith, is.boxes.mdat.near)) sum (omega (arith, rows)) in
-      subst (λ z. IsCounted (operations.List command) c' (at + z + b.mdat.size) 0 0) (sym len_is) (counted_later (operations.List command) c' (at + is.boxes.span.size + b.mdat.size) (at + is.boxes.span.size + b.mdat.size) k 0 (omega arith) (omega arith) (omega (arith, is.boxes.mdat.near)) effects)
 
   -- the fragment with its number
   abbrev pub it : ℕ → Fragment

@@ -1,5 +1,5 @@
 -- The lines of trafs and of tracks, one after the other.
-use Rattle.std.proofs.Common.{◌≡◌, ◌⊎◌, ◌∙◌, ◌^◌, ℕ, ℤ, inl, inr, refl, Option, zero, suc, ◌*◌, ◌≤◌, drop, get_or, ◌+◌, ◌-◌, ◌<◌, List, map, [], ◌∷◌, ◌++◌, length, Some, ap, sym, arith, subst, append-nil, append_assoc}
+use Rattle.std.proofs.Common.{◌≡◌, ◌⊎◌, ◌∙◌, ◌^◌, ℕ, ℤ, inl, inr, refl, Option, zero, suc, ◌≤◌, drop, get_or, ◌+◌, ◌-◌, ◌<◌, List, map, [], ◌∷◌, ◌++◌, length, Some, ap, sym, arith, subst, append-nil, append_assoc}
 use Rattle.std.specs.List.{AllByRecursion, flat_map}
 use Rattle.mp4_box.specs.Paths.{of_kind}
 use Rattle.mp4_box.specs.Trees.{Box, children}
@@ -13,14 +13,13 @@ use Rattle.mp4_traf.specs.Runs.{MoofBytes, Shared, TrackFragment, run_at, run_of
 use Rattle.mp4_traf.specs.TrafTotals.{totals_of}
 use Rattle.mp4_traf.specs.declared.run.Run.{Run}
 use Rattle.mp4_traf.specs.declared.traf_totals.TrafTotals.{TrafTotals}
-use Rattle.mp4_frag.specs.Moofs.{moof_of, sequence_of}
+use Rattle.mp4_frag.specs.Moofs.{moof_of, moof_trafs, sequence_of}
 use Rattle.mp4_frag.specs.SingleRuns.{IsSingle}
 use Rattle.mp4_frag.specs.declared.single_run.SingleRun.{SingleRun}
 use Rattle.mp4_machine.specs.Blocks.{Pending}
 use Rattle.mp4_machine.specs.Ends.{Sent}
 use Rattle.mp4_machine.specs.Puts.{HasPut}
 use Rattle.mp4_fragment_machine.specs.Implementation.TrafLines.{moof_lines, put_of, put_with, size_with}
-use Rattle.mp4_fragment_machine.specs.States.{listed_by}
 use Rattle.mp4_grammar.specs.Commands.{accepted}
 use Rattle.mp4_grammar.specs.FragmentLines.{size_of, traf_with}
 use Rattle.mp4_grammar.specs.Meanings.{Fragment}
@@ -28,8 +27,7 @@ use Rattle.mp4_grammar.specs.Presented.{all_rows, presented_of}
 use Rattle.mp4_grammar.proofs.PresentedLemmas.{rows_last}
 use Rattle.mp4_grammar.specs.declared.presented.Presented.{Presented}
 use Rattle.mp4_grammar.specs.declared.command.Command.{Command}
-use Rattle.mp4_grammar.specs.declared.command.Command.TheVariants.{Fragments, Records}
-use Rattle.mp4_recut.specs.declared.operation.Operation.TheVariants as operations
+use Rattle.mp4_grammar.specs.declared.command.Command.TheVariants.{Samples, Fragments, Records, Check}
 
 -- ---- line after line
 
@@ -56,21 +54,26 @@ size_stated at len n s size is all = rw is (ap Some all ∙ size_is at len s)
 
 -- ---- lines and records alike
 
--- a command that lists trafs
-abbrev pub ListsTrafs : Command → Type 0
-ListsTrafs command = (command ≡ Fragments) ⊎ (command ≡ Records)
+no_put : (put : TrackFragment → List ℕ) → ((t : TrackFragment) → put t ≡ []) → (ts : List TrackFragment) → flat_map put ts ≡ []
+no_put put none [] = refl
+no_put put none (t ∷ ts) = ap (λ l. l ++ flat_map put ts) (none t) ∙ no_put put none ts
 
-pub listed_is : (command : Command) (n : ℕ) → ListsTrafs command → listed_by (operations.List command) n ≡ 2 * n
-listed_is command n (inl is) = rw is refl
-listed_is command n (inr is) = rw is refl
+-- where neither lines nor records are asked for, nothing is put of the trafs
+pub no_lines : (command : Command) (h : MoofBytes) (tracks : List Track) (size : Option ℕ) → (command ≡ Check) ⊎ (command ≡ Samples) → moof_lines command h tracks size ≡ []
+no_lines command h tracks size (inl is) = rw is (no_put (put_with Check tracks (sequence_of h) h.offset size) (λ t. refl) (moof_trafs h tracks))
+no_lines command h tracks size (inr is) = rw is (no_put (put_with Samples tracks (sequence_of h) h.offset size) (λ t. refl) (moof_trafs h tracks))
 
-pub lines_are : (command : Command) (f : Fragment) (size : Option ℕ) → ListsTrafs command → size ≡ size_of f → moof_lines command f.moof f.tracks size ≡ (accepted command f).text
-lines_are command f size (inl is) same = rw (is, same) refl
-lines_are command f size (inr is) same = rw (is, same) refl
+-- where they are, samples aren't
+pub no_samples : (command : Command) → (command ≡ Fragments) ⊎ (command ≡ Records) → command ≡ Samples → ⊥
+no_samples command (inl is) other = let no : Fragments ≡ Samples = sym is ∙ other in absurd cc
+no_samples command (inr is) other = let no : Records ≡ Samples = sym is ∙ other in absurd cc
 
--- the same, as what another name of the command puts
-pub lines_by : (command k : Command) (f : Fragment) (size : Option ℕ) → command ≡ k → ListsTrafs command → size ≡ size_of f → moof_lines k f.moof f.tracks size ≡ (accepted command f).text
-lines_by command k f size is lists same = ap (λ m. moof_lines m f.moof f.tracks size) (sym is) ∙ lines_are command f size lists same
+-- what is put of them is the text of the fragment, but where its samples are listed
+pub lines_are : (command : Command) (f : Fragment) (size : Option ℕ) → (command ≡ Samples → ⊥) → size ≡ size_of f → moof_lines command f.moof f.tracks size ≡ (accepted command f).text
+lines_are Samples f size other same = absurd (other refl)
+lines_are Fragments f size other same = rw same refl
+lines_are Records f size other same = rw same refl
+lines_are Check f size other same = no_lines Check f.moof f.tracks size (inl refl)
 
 -- ---- a moof with one run
 

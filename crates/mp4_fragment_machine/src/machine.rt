@@ -18,8 +18,8 @@ use crate::counter::Counter;
 use crate::in_place::InPlace;
 use crate::in_place::find::find_in_place;
 use crate::mdat::header::unfollowed;
-use crate::mdat::recut::take_split;
-use crate::state::{Carried, State, back_state, stopped};
+use crate::mdat::recut::take_recut;
+use crate::state::{Carried, State, back_state, back_tracks, stopped};
 use mp4_box::{Fault, HeaderReader};
 use mp4_ends::Sink;
 use mp4_frag::Steps;
@@ -112,7 +112,7 @@ impl FragmentMachine {
     ///
     /// `Stream` where the mdat goes too far; `Write` where a write failed.
     #[inline(never)]
-    fn copy_media<W: Sink>(
+    fn take_media<W: Sink>(
         &mut self,
         ledger: &mut Ledger,
         input: &[u8],
@@ -126,7 +126,7 @@ impl FragmentMachine {
             ledger.old ledger.new self.old.counter.tally self.new.counter.tally)
             self.old self.new input.now result }
     {
-        match take_split(&mut self.state, input, &mut self.carried, ledger, out, w) {
+        match take_recut(&mut self.state, input, &mut self.carried, ledger, out, w) {
             Ok(taken) => Ok(taken),
             Err(stop) => {
                 self.give_back(ledger);
@@ -189,7 +189,7 @@ impl Machine for FragmentMachine {
             }
             return self.finish_body(ledger, input);
         } else if let State::Media(_) = &self.state {
-            return self.copy_media(ledger, input, out, w);
+            return self.take_media(ledger, input, out, w);
         }
         self.take_next_input(ledger, input, out, w)
     }
@@ -215,9 +215,6 @@ impl Machine for FragmentMachine {
 
     fn give_back(&mut self, ledger: &mut Ledger) {
         back_state(replace(&mut self.state, stopped()), ledger);
-        self.carried.header_bytes = HeaderReader::new();
-        if let Some(list) = self.carried.tracks.take() {
-            list.back(ledger);
-        }
+        back_tracks(&mut self.carried, ledger);
     }
 }

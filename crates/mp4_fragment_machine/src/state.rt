@@ -1,8 +1,9 @@
 //! State of the machine, and its changes in place.
 
-ghost use Rattle.std.specs.Prelude.{◌≡◌, ℕ, ◌≤◌};
+ghost use Rattle.std.specs.Prelude.{◌≡◌, ℕ, ◌≤◌, [], None};
 ghost use Rattle.mp4_ledger.specs.Memory.{given_back};
 ghost use Rattle.mp4_machine.specs.declared.body.Body.{Body};
+ghost use Rattle.mp4_grammar.specs.Contexts.{table_of};
 ghost use Rattle.mp4_fragment_machine.specs.States.{kept_by, stopped};
 ghost use Rattle.mp4_fragment_machine.specs.declared.state.Recutting.{Recutting};
 ghost use Rattle.mp4_fragment_machine.specs.declared.state.State.TheVariants as states;
@@ -145,10 +146,26 @@ pub(crate) fn leave_header(current: &mut State, state: State)
     }
 }
 
-/// Holds nothing, from a header.
-pub(crate) fn stop_at(current: &mut State)
-    requires { (old : ℕ) × (current.old ≡ states.Header old) }
-    ensures { current.new ≡ stopped }
+/// Gives back the tracks, and forgets the bytes of a header.
+pub(crate) fn back_tracks(carried: &mut Carried, ledger: &mut Ledger)
+    requires { table_of carried.old.tracks ≤ ledger.old.live }
+    ensures carried { carried.new ≡ record carried.old { tracks = None; header_bytes = [] } }
+    ensures back { ledger.new ≡ given_back ledger.old (table_of carried.old.tracks) }
+{
+    carried.header_bytes = HeaderReader::new();
+    if let Some(list) = carried.tracks.take() {
+        list.back(ledger);
+    }
+}
+
+/// Stops at a header: holds nothing, and gives back the tracks.
+pub(crate) fn stop_at(current: &mut State, carried: &mut Carried, ledger: &mut Ledger)
+    requires header { (old : ℕ) × (current.old ≡ states.Header old) }
+    requires claim { table_of carried.old.tracks ≤ ledger.old.live }
+    ensures state { current.new ≡ stopped }
+    ensures carried { carried.new ≡ record carried.old { tracks = None; header_bytes = [] } }
+    ensures back { ledger.new ≡ given_back ledger.old (table_of carried.old.tracks) }
 {
     leave_header(current, stopped());
+    back_tracks(carried, ledger);
 }

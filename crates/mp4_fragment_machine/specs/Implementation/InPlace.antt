@@ -29,7 +29,7 @@ use Rattle.mp4_fragment_machine.specs.States.{Progress, known}
 use Rattle.mp4_fragment_machine.specs.declared.in_place.InPlace.{InPlace}
 use Rattle.mp4_fragment_machine.specs.declared.in_place.InPlace.TheVariants as answers
 use Rattle.mp4_fragment_machine.specs.declared.in_place.CompleteFragment.{CompleteFragment}
-use Rattle.mp4_fragment_machine.specs.declared.in_place.many_runs.InPlaceRead.{InPlaceRead}
+use Rattle.mp4_fragment_machine.specs.declared.in_place.attempt.InPlaceRead.{InPlaceRead}
 use Rattle.mp4_fragment_machine.specs.declared.in_place.many_runs.Untaken.{Untaken}
 use Rattle.mp4_fragment_machine.specs.declared.in_place.many_runs.Untaken.TheVariants as untaken
 use Rattle.mp4_fragment_machine.specs.declared.state.State.TheVariants as states
@@ -145,12 +145,6 @@ pub record HasPlaceFault (m : Progress) (account : Account) (at : ℕ) (input : 
   pub boxes : HasBoxes m account at input l.boxes
   pub single_run : IsSingle (moof_at l.boxes.moof.now at) (known m.tracks) l.run.now
   pub misplaced : place_fault (payload_in (at + boxes.are.span.size) l.boxes.mdat) (l.run.now.run ∷ []) ≡ Some f
-
--- one that may have any runs
-pub record HasManyRuns (m : Progress) (account : Account) (at : ℕ) (input : List ℕ) (moof : Span) (b : Boxes) : Type 0 where
-  pub first : HasMoof m at input moof
-  pub boxes : HasBoxes m account at input b
-  pub bytes : b.moof.now ≡ take moof.size input
 
 -- what the answer says
 abbrev pub IsFoundInPlace : Progress → ℕ → List ℕ → InPlace → Type 0

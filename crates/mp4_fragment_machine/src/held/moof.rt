@@ -15,7 +15,7 @@ ghost use Rattle.mp4_fragment_machine.specs.Implementation.InPlace.{WasReadInPla
 ghost use Rattle.mp4_fragment_machine.specs.declared.state.State.TheVariants as states;
 
 use crate::counter::Counter;
-use crate::in_place::many_runs::InPlaceRead;
+use crate::in_place::attempt::InPlaceRead;
 use crate::pending_moof::PendingMoof;
 use crate::state::Carried;
 use mp4_box::Fault;

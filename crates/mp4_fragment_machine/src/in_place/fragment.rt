@@ -1,6 +1,6 @@
 //! The boxes of a fragment that the input has whole.
 
-ghost use Rattle.std.specs.Prelude.{◌≡◌, ◌+◌, ◌≤◌, IfSome, length, take};
+ghost use Rattle.std.specs.Prelude.{◌≡◌, ℕ, ◌+◌, ◌≤◌, List, IfSome, length, take};
 ghost use Rattle.mp4_grammar.specs.Kinds.{most_moof};
 ghost use Rattle.mp4_grammar.specs.declared.kinds.Kind.TheVariants.{Moof};
 ghost use Rattle.mp4_fragment_machine.specs.Implementation.InPlace.{AreBoxes, IsFirstBox, payload_in};
@@ -42,9 +42,9 @@ pub(crate) fn boxes_in<'a>(
 
 /// The payload of the mdat of a fragment at `at`.
 #[inline(always)]
-pub(crate) fn payload_after(at: u64, boxes: &Boxes<'_>, input: &[u8]) -> Payload
-    requires are { AreBoxes at input.now boxes.now }
-    ensures { (are : AreBoxes at input.now boxes.now) →
+pub(crate) fn payload_after(at: u64, boxes: &Boxes<'_>) -> Payload
+    requires { (input : List ℕ) × AreBoxes at input boxes.now }
+    ensures { (input : List ℕ) (are : AreBoxes at input boxes.now) →
         result ≡ payload_in (at + are.span.size) boxes.now.mdat }
 {
     let next = at + boxes.moof.len() as u64;

@@ -10,6 +10,7 @@ ghost use Rattle.mp4_fragment_machine.specs.States.{most_fragments, place_in};
 ghost use Rattle.mp4_fragment_machine.specs.Implementation.Feeds.{Feeds};
 ghost use Rattle.mp4_fragment_machine.specs.Implementation.InPlace.{HasMoof, IsTakenInPlace};
 
+pub(crate) mod attempt;
 pub(crate) mod find;
 pub(crate) mod fragment;
 pub(crate) mod many_runs;
@@ -19,6 +20,7 @@ pub(crate) mod other_box;
 
 use crate::counter::Counter;
 use crate::in_place::fragment::{boxes_in, payload_after};
+use crate::in_place::many_runs::Untaken;
 use crate::machine::FragmentMachine;
 use mp4_box::FourCc;
 use mp4_ends::Sink;
@@ -99,7 +101,7 @@ impl FragmentMachine {
                 boxes_in(at, moof, input, ledger),
                 &self.carried.tracks,
             ) {
-                let payload = payload_after(at, &boxes, input);
+                let payload = payload_after(at, &boxes);
                 let mut steps = Steps { rows: 0 };
                 match SingleRun::read(boxes.moof, at, list, &mut steps) {
                     Ok(Some(run)) => {
@@ -111,7 +113,15 @@ impl FragmentMachine {
                             )),
                         };
                     }
-                    Ok(None) => return self.take_many_runs(at, moof, &boxes, ledger, input, out, w),
+                    Ok(None) => {
+                        return match self.list_in_place(at, &boxes, ledger, input, out, w) {
+                            Ok(count) => Ok(count),
+                            Err(Untaken::GivenUp(found)) => {
+                                self.take_moof(at, moof, found, ledger, input, out, w)
+                            }
+                            Err(Untaken::WriteFailed) => Err(Stop::Write),
+                        };
+                    }
                     Err(fault) => {
                         return Err(self.refuse_late(at, &boxes, steps.rows, fault, ledger, input));
                     }

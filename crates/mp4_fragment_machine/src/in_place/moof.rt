@@ -15,14 +15,14 @@ ghost use Rattle.mp4_fragment_machine.specs.declared.state.State.TheVariants as 
 
 use crate::held::moof::accept_moof;
 use crate::in_place::Span;
-use crate::in_place::many_runs::InPlaceRead;
+use crate::in_place::attempt::InPlaceRead;
 use crate::machine::FragmentMachine;
 use crate::mdat::header::take_mdat_header;
 use crate::pending_moof::PendingMoof;
 use crate::state::{Carried, State, Taken, leave_header, stop_at};
 use mp4_ends::Sink;
 use mp4_ledger::Ledger;
-use mp4_machine::{Block, BufferedBox, Machine, Stop};
+use mp4_machine::{Block, BufferedBox, Stop};
 
 /// Holds the moof that is whole at the front of the input, and claims the list of its runs: it is kept for its mdat.
 /// `found` as in [`accept_moof`].
@@ -139,8 +139,7 @@ impl FragmentMachine {
                 Ok(count)
             }
             Err(stop) => {
-                stop_at(&mut self.state);
-                self.give_back(ledger);
+                stop_at(&mut self.state, &mut self.carried, ledger);
                 Err(stop)
             }
         }

@@ -2,10 +2,11 @@
 //!
 //! Most fragments of live streams are such. Their claims are counted, and no memory is requested.
 
-ghost use Rattle.std.specs.Prelude.{◌≡◌, ◌+◌, ◌-◌, ◌*◌, ◌<◌, ◌≤◌, ◌^◌, ◌∷◌, ℕ, [], false, length, None, Some, OnOk};
+ghost use Rattle.std.specs.Prelude.{◌≡◌, ◌+◌, ◌-◌, ◌*◌, ◌<◌, ◌≤◌, ◌^◌, ◌∷◌, ℕ, List, [], false, length, None, Some, OnOk};
 ghost use Rattle.mp4_box.specs.Order.{least};
 ghost use Rattle.mp4_box.specs.declared.headers.Header.{Header};
 ghost use Rattle.mp4_box.specs.declared.headers.Size.TheVariants.{Exact};
+ghost use Rattle.mp4_init.specs.declared.table.Track.{Track};
 ghost use Rattle.mp4_frag.specs.Moofs.{fault_before_times, moof_samples, moof_trafs, time_faults};
 ghost use Rattle.mp4_frag.specs.Places.{place_fault};
 ghost use Rattle.mp4_traf.specs.Runs.{moof_at};
@@ -30,11 +31,11 @@ ghost use Rattle.mp4_fragment_machine.specs.Implementation.Steps.{CanStep, Stops
 ghost use Rattle.mp4_recut.specs.declared.operation.Operation.TheVariants as operations;
 ghost use Rattle.mp4_fragment_machine.specs.declared.state.State.TheVariants as states;
 
-use crate::counter::{Counter, count};
+use crate::counter::{Counter, accept, count_samples, inspect};
 use crate::in_place::{Boxes, CompleteFragment, ROW};
 use crate::machine::FragmentMachine;
 use crate::mdat::sample_lines;
-use crate::mdat::traf_lines::{put_single_line, put_single_record};
+use crate::mdat::traf_lines::put_single_traf;
 use crate::state::{Carried, go_to, stop_at};
 use mp4_box::Fault;
 use mp4_cut::Cut;
@@ -42,7 +43,7 @@ use mp4_ends::{Failed, Sink};
 use mp4_grammar::Command;
 use mp4_init::TrackList;
 use mp4_ledger::Ledger;
-use mp4_machine::{Block, Machine, Stop};
+use mp4_machine::{Block, Stop};
 use mp4_recut::{Operation, whole};
 
 impl FragmentMachine {
@@ -74,10 +75,8 @@ impl FragmentMachine {
         claim(&complete.boxes, ledger);
         let counter = &mut self.carried.counter;
         let put = match self.carried.operation {
-            Operation::List(command) => {
-                list_run(command, at, complete, input, list, counter, out, w)
-            }
-            Operation::Split(cut) => { recut_run(&cut, at, complete, input, list, counter, out, w) }
+            Operation::List(command) => list_run(command, at, complete, list, counter, out, w),
+            Operation::Split(cut) => recut_run(&cut, at, complete, input, counter, out, w),
         };
         match put {
             Ok(()) => {
@@ -87,8 +86,7 @@ impl FragmentMachine {
                 Ok(size as usize)
             }
             Err(Failed) => {
-                stop_at(&mut self.state);
-                self.give_back(ledger);
+                stop_at(&mut self.state, &mut self.carried, ledger);
                 Err(Stop::Write)
             }
         }
@@ -111,8 +109,7 @@ impl FragmentMachine {
             self.old self.new input.now result }
     {
         let stop = refuse_times(at, boxes, input, samples, fault, &mut self.carried, ledger);
-        stop_at(&mut self.state);
-        self.give_back(ledger);
+        stop_at(&mut self.state, &mut self.carried, ledger);
         stop
     }
 
@@ -132,8 +129,7 @@ impl FragmentMachine {
             self.old self.new input.now result }
     {
         let stop = refuse_place(at, complete, input, fault, &mut self.carried, ledger);
-        stop_at(&mut self.state);
-        self.give_back(ledger);
+        stop_at(&mut self.state, &mut self.carried, ledger);
         stop
     }
 }
@@ -145,7 +141,16 @@ fn claim(boxes: &Boxes<'_>, ledger: &mut Ledger)
     ensures { ledger.new ≡ given_back (claimed ledger.old (length boxes.now.moof.now + 64))
         (length boxes.now.moof.now + 64) }
 {
-    match ledger.count_claim(boxes.moof.len() as u64 + ROW) {
+    count_allowed(ledger, boxes.moof.len() as u64 + ROW);
+}
+
+/// Counts a claim of so many bytes, which the limit allows.
+#[inline(always)]
+fn count_allowed(ledger: &mut Ledger, bytes: u64)
+    requires { ledger.old.live + bytes ≤ ledger.old.limit }
+    ensures { ledger.new ≡ given_back (claimed ledger.old bytes) bytes }
+{
+    match ledger.count_claim(bytes) {
         Ok(()) => {}
         Err(_) => unreachable!(),
     }
@@ -162,13 +167,12 @@ fn list_run<W: Sink>(
     command: Command,
     at: u64,
     complete: &CompleteFragment<'_>,
-    input: &[u8],
     tracks: &TrackList,
     counter: &mut Counter,
     out: &mut Block,
     w: &mut W,
 ) -> Result<(), Failed>
-    requires is { IsFragment at tracks.now input.now complete.now.boxes complete.now.run.now }
+    requires is { (input : List ℕ) × IsFragment at tracks.now input complete.now.boxes complete.now.run.now }
     requires counted { IsCounted (operations.List command) counter.old at 0 0 }
     ensures puts { (g : Header) → g.size ≡ Exact complete.now.boxes.mdat.size →
         Puts (sent W.contents W.has_failed w.old w.new) out.old out.new
@@ -183,27 +187,15 @@ fn list_run<W: Sink>(
         (at + length complete.now.boxes.moof.now + complete.now.boxes.mdat.size) 0 0 }
 {
     let run = &complete.run.run;
-    let samples = u64::from(run.count);
-    counter.tally.inspected += u128::from(samples);
-    counter.steps.rows += 2 * u128::from(samples);
-    count(counter, samples, run.bytes);
+    let Boxes { moof, mdat } = complete.boxes;
+    inspect(counter, u128::from(run.count), 2 * u128::from(run.count));
+    accept(counter, command, u64::from(run.count), run.bytes);
     match command {
         Command::Check => Ok(()),
-        Command::Samples => {
-            counter.steps.rows += u128::from(samples);
-            sample_lines::put_run(run, complete.boxes.moof, out, w)
-        }
-        Command::Fragments => {
-            counter.steps.rows += 2 * u128::from(samples);
-            let Boxes { moof, mdat } = complete.boxes;
+        Command::Samples => sample_lines::put_run(run, moof, out, w),
+        Command::Fragments | Command::Records => {
             let size = moof.len() as u64 + mdat.size;
-            put_single_line(moof, at, complete.run, size, tracks, out, w)
-        }
-        Command::Records => {
-            counter.steps.rows += 2 * u128::from(samples);
-            let Boxes { moof, mdat } = complete.boxes;
-            let size = moof.len() as u64 + mdat.size;
-            put_single_record(moof, at, complete.run, size, tracks, out, w)
+            put_single_traf(command, moof, at, complete.run, size, tracks, out, w)
         }
     }
 }
@@ -220,12 +212,11 @@ fn recut_run<W: Sink>(
     at: u64,
     complete: &CompleteFragment<'_>,
     input: &[u8],
-    tracks: &TrackList,
     counter: &mut Counter,
     out: &mut Block,
     w: &mut W,
 ) -> Result<(), Failed>
-    requires is { IsFragment at tracks.now input.now complete.now.boxes complete.now.run.now }
+    requires is { (tracks : List Track) × IsFragment at tracks input.now complete.now.boxes complete.now.run.now }
     requires plain { cut.now.index ≡ false }
     requires numbers { counter.old.tally.fragments + 1 + complete.now.run.now.run.count ≤ 2 ^ 32 }
     requires counted { IsCounted (operations.Split cut.now) counter.old at 0 0 }
@@ -249,11 +240,8 @@ fn recut_run<W: Sink>(
         counter.old.steps.rows + 5 * complete.now.run.now.run.count }
 {
     let run = &complete.run.run;
-    let samples = u128::from(run.count);
-    counter.tally.inspected += samples;
-    counter.tally.samples += samples;
-    counter.tally.media_bytes += run.bytes;
-    counter.steps.rows += 5 * samples;
+    inspect(counter, u128::from(run.count), 5 * u128::from(run.count));
+    count_samples(&mut counter.tally, u64::from(run.count), run.bytes);
     let moof_bytes = complete.boxes.moof;
     let mdat = &complete.boxes.mdat;
     let (_, after) = input.split_at(moof_bytes.len());
@@ -292,12 +280,8 @@ fn refuse_times(
     ensures rows_read { carried.new.counter.steps.rows ≡ carried.old.counter.steps.rows +
         moof_samples (moof_at boxes.now.moof.now at) }
 {
-    match ledger.count_claim(boxes.moof.len() as u64) {
-        Ok(()) => {}
-        Err(_) => unreachable!(),
-    }
-    carried.counter.tally.inspected += samples;
-    carried.counter.steps.rows += samples;
+    count_allowed(ledger, boxes.moof.len() as u64);
+    inspect(&mut carried.counter, samples, samples);
     Stop::Stream(fault)
 }
 
@@ -328,7 +312,6 @@ fn refuse_place(
 {
     claim(&complete.boxes, ledger);
     let samples = u128::from(complete.run.run.count);
-    carried.counter.tally.inspected += samples;
-    carried.counter.steps.rows += 2 * samples;
+    inspect(&mut carried.counter, samples, 2 * samples);
     Stop::Stream(fault)
 }

@@ -17,7 +17,7 @@ use crate::machine::FragmentMachine;
 use crate::state::{Carried, go_to, stop_at};
 use mp4_ends::{Failed, Sink};
 use mp4_ledger::Ledger;
-use mp4_machine::{Block, Machine, Stop};
+use mp4_machine::{Block, Stop};
 use mp4_recut::{Operation, is_dropped};
 
 impl FragmentMachine {
@@ -48,8 +48,7 @@ impl FragmentMachine {
                 Ok(size as usize)
             }
             Err(stop) => {
-                stop_at(&mut self.state);
-                self.give_back(ledger);
+                stop_at(&mut self.state, &mut self.carried, ledger);
                 Err(stop)
             }
         }

@@ -21,7 +21,7 @@ use mp4_machine::{AnyBody, Block, Stop, body_of};
 /// # Errors
 ///
 /// `Stream` where that box may not follow, or the runs of the moof don't lie in it; `Write` where a write failed.
-pub(crate) fn begin_listed<W: Sink>(
+pub(crate) fn accept_listed<W: Sink>(
     command: Command,
     pending_moof: PendingMoof,
     header: &Header,

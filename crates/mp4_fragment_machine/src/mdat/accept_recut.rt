@@ -25,7 +25,7 @@ ghost use Rattle.mp4_fragment_machine.specs.Implementation.Splits.{BeginsSplit, 
 ghost use Rattle.mp4_fragment_machine.specs.Implementation.Steps.{borrowed, Advances, MayBeginFragment, ledger_alone, with_head};
 ghost use Rattle.mp4_fragment_machine.specs.declared.state.State.TheVariants as states;
 
-use crate::counter::Counter;
+use crate::counter::{Counter, count_samples};
 use crate::mdat::check::{check_mdat, payload_of};
 use crate::mdat::end::end_fragment;
 use crate::mdat::totals::{MoofTotals, add_up_runs};
@@ -54,7 +54,7 @@ pub(crate) struct Split {
 /// # Errors
 ///
 /// `Failed` where a write failed.
-fn begin_recut<W: Sink>(
+fn begin_media<W: Sink>(
     pending_moof: &PendingMoof,
     moof_totals: MoofTotals,
     tracks: &TrackList,
@@ -77,8 +77,7 @@ fn begin_recut<W: Sink>(
         BeginsMedia cut.now (recut_fragment pending_moof.now tracks.now (tally.old.fragments + 1) h)
         pending_moof.now (sent W.contents W.has_failed w.old w.new) out.old out.new tally.old tally.new result }
 {
-    tally.samples += u128::from(moof_totals.samples);
-    tally.media_bytes += moof_totals.bytes;
+    count_samples(tally, moof_totals.samples, moof_totals.bytes);
     let moof = pending_moof.moof(tracks);
     let cut_moof = CutMoof {
         moof: &moof,
@@ -147,7 +146,7 @@ fn reads_per_row(cut: &Cut) -> u64
 ///
 /// `Stream` where that box may not follow, the runs of the moof don't lie in it, or there is no room for the numbers of
 /// its pieces; `Write` where a write failed.
-pub(crate) fn begin_split<W: Sink>(
+fn begin_fragment<W: Sink>(
     pending_moof: PendingMoof,
     header: &Header,
     tracks: &TrackList,
@@ -191,7 +190,7 @@ pub(crate) fn begin_split<W: Sink>(
     }
     let needed = totals.needed;
     let tally = &mut counter.tally;
-    match begin_recut(&pending_moof, totals, tracks, cut, tally, out, w) {
+    match begin_media(&pending_moof, totals, tracks, cut, tally, out, w) {
         Ok(media) => Ok(Split {
             pending_moof,
             media,
@@ -205,7 +204,7 @@ pub(crate) fn begin_split<W: Sink>(
 }
 
 /// The state after the header of the mdat at `at`, whose media were begun.
-fn enter_split(
+fn enter_media(
     at: u64,
     header: &Header,
     split: Split,
@@ -250,8 +249,8 @@ fn enter_split(
 ///
 /// # Errors
 ///
-/// As [`begin_split`].
-pub(crate) fn begin_media<W: Sink>(
+/// As [`begin_fragment`].
+pub(crate) fn accept_recut<W: Sink>(
     pending_moof: PendingMoof,
     header: &Header,
     header_bytes: &[u8],
@@ -269,7 +268,7 @@ pub(crate) fn begin_media<W: Sink>(
         unreachable!();
     };
     let at = pending_moof.moof.offset() + pending_moof.moof.size();
-    match begin_split(
+    match begin_fragment(
         pending_moof,
         header,
         list,
@@ -279,7 +278,7 @@ pub(crate) fn begin_media<W: Sink>(
         out,
         w,
     ) {
-        Ok(split) => Ok(enter_split(at, header, split, carried, ledger)),
+        Ok(split) => Ok(enter_media(at, header, split, carried, ledger)),
         Err(stop) => Err(stop),
     }
 }

@@ -11,8 +11,8 @@ ghost use Rattle.mp4_fragment_machine.specs.States.{IsPendingMoof, known};
 ghost use Rattle.mp4_fragment_machine.specs.Implementation.Steps.{Consumes, MayTake, borrowed};
 ghost use Rattle.mp4_fragment_machine.specs.declared.state.State.TheVariants as states;
 
-use crate::mdat::accept_list::begin_listed;
-use crate::mdat::accept_recut::begin_media;
+use crate::mdat::accept_list::accept_listed;
+use crate::mdat::accept_recut::accept_recut;
 use crate::pending_moof::{PendingMoof, back};
 use crate::state::{Carried, State, Taken};
 use mp4_box::types::MOOF;
@@ -56,10 +56,10 @@ pub(crate) fn take_mdat_header<W: Sink>(
             let (header, head) = (&header, bytes.bytes());
             let begun = match carried.operation {
                 Operation::List(command) => {
-                    begin_listed(command, pending_moof, header, head, carried, ledger, out, w)
+                    accept_listed(command, pending_moof, header, head, carried, ledger, out, w)
                 }
                 Operation::Split(cut) => {
-                    begin_media(pending_moof, header, head, cut, carried, ledger, out, w)
+                    accept_recut(pending_moof, header, head, cut, carried, ledger, out, w)
                 }
             };
             match begun {

@@ -12,11 +12,11 @@ ghost use Rattle.mp4_machine.specs.Readings.{plus};
 ghost use Rattle.mp4_fragment_machine.specs.States.{IsCounted, IsPendingMoof, bound_after, listed_by, moof_in, pending_fragment};
 ghost use Rattle.mp4_recut.specs.declared.operation.Operation.TheVariants as operations;
 
-use crate::counter::{Counter, count};
+use crate::counter::{Counter, accept};
 use crate::mdat::check::payload_of;
 use crate::mdat::sample_lines::put_runs;
 use crate::mdat::totals::add_up_runs;
-use crate::mdat::traf_lines::put_pending_lines;
+use crate::mdat::traf_lines::{put_moof_lines, size_of};
 use crate::pending_moof::PendingMoof;
 use mp4_box::Header;
 use mp4_ends::{Failed, Sink};
@@ -62,33 +62,40 @@ pub(crate) fn emit<W: Sink>(
         0 (moof_samples (moof_in pending_moof.now)) }
 {
     let next = pending_moof.moof.offset() + pending_moof.moof.size();
-    let moof_totals = add_up_runs(pending_moof, payload_of(next, header), tracks);
-    count(counter, moof_totals.samples, moof_totals.bytes);
+    let totals = add_up_runs(pending_moof, payload_of(next, header), tracks);
+    accept(counter, command, totals.samples, totals.bytes);
+    match put_pending(command, pending_moof, header, tracks, out, w) {
+        Ok(()) => Ok(totals.needed),
+        Err(Failed) => Err(Failed),
+    }
+}
+
+/// Puts the lines of the samples of the pending moof, whose mdat has this header, or of its trafs, or their records, if
+/// they are asked for.
+///
+/// # Errors
+///
+/// `Failed` where a write failed.
+#[inline(always)]
+fn put_pending<W: Sink>(
+    command: Command,
+    pending_moof: &PendingMoof,
+    header: &Header,
+    tracks: &TrackList,
+    out: &mut Block,
+    w: &mut W,
+) -> Result<(), Failed>
+    requires pending_moof { IsPendingMoof (Some tracks.now) pending_moof.now }
+    requires near { least_end (pending_moof.now.moof.at + pending_moof.now.moof.size)
+        header.now header.now.size ≤ longest }
+    ensures { Puts (sent W.contents W.has_failed w.old w.new) out.old out.new
+        (accepted command (pending_fragment 1 pending_moof.now tracks.now header.now)).text result }
+{
     match command {
-        Command::Check => Ok(moof_totals.needed),
-        Command::Samples => {
-            let samples = moof_totals.samples;
-            match put_runs(pending_moof, samples, tracks, &mut counter.steps, out, w) {
-                Ok(()) => Ok(moof_totals.needed),
-                Err(Failed) => Err(Failed),
-            }
-        }
-        Command::Fragments | Command::Records => {
-            let samples = moof_totals.samples;
-            let steps = &mut counter.steps;
-            match put_pending_lines(
-                command,
-                pending_moof,
-                header,
-                samples,
-                tracks,
-                steps,
-                out,
-                w,
-            ) {
-                Ok(()) => Ok(moof_totals.needed),
-                Err(Failed) => Err(Failed),
-            }
+        Command::Samples => put_runs(pending_moof, tracks, out, w),
+        _ => {
+            let size = size_of(pending_moof.moof.size(), header);
+            put_moof_lines(command, &pending_moof.moof(tracks), size, tracks, out, w)
         }
     }
 }

@@ -26,7 +26,7 @@ use mp4_recut::media::{CutMoof, Media, copy_all_media};
 /// # Errors
 ///
 /// `Failed` where a write failed.
-pub(crate) fn take_media<W: Sink>(
+pub(crate) fn recut_front<W: Sink>(
     recutting: &mut Recutting,
     input: &[u8],
     tracks: &TrackList,
@@ -70,7 +70,7 @@ pub(crate) fn take_media<W: Sink>(
 /// # Errors
 ///
 /// `Stream` where the mdat goes too far: the bytes before that were recut; `Write` where a write failed.
-pub(crate) fn take_split<W: Sink>(
+pub(crate) fn take_recut<W: Sink>(
     current: &mut State,
     input: &[u8],
     carried: &mut Carried,
@@ -100,7 +100,7 @@ pub(crate) fn take_split<W: Sink>(
         let_go(current, ledger);
         return Err(stop);
     }
-    let count = match take_media(recutting, input, list, cut, tally, out, w) {
+    let count = match recut_front(recutting, input, list, cut, tally, out, w) {
         Ok(count) => count,
         Err(Failed) => {
             let_go(current, ledger);

@@ -1,17 +1,16 @@
 //! The lines of a fragment's samples.
 
-ghost use Rattle.std.specs.Prelude.{◌≡◌, ◌+◌, ◌<◌, ◌^◌, Some};
+ghost use Rattle.std.specs.Prelude.{◌≡◌, Some};
 ghost use Rattle.mp4_traf.specs.Cursors.{HasRoom};
-ghost use Rattle.mp4_frag.specs.Moofs.{moof_samples};
 ghost use Rattle.mp4_traf.specs.Ranges.{IsRunOf};
 ghost use Rattle.mp4_machine.specs.Ends.{sent};
 ghost use Rattle.mp4_machine.specs.Puts.{Puts};
 ghost use Rattle.mp4_grammar.specs.Samples.{sample_lines, sample_of, samples_from, samples_of_run};
-ghost use Rattle.mp4_fragment_machine.specs.States.{IsPendingMoof, lines_of, moof_in};
+ghost use Rattle.mp4_fragment_machine.specs.States.{IsPendingMoof, lines_of};
 
 use crate::pending_moof::PendingMoof;
 use mp4_ends::{Failed, Sink};
-use mp4_frag::{Cursor, Row, Rows, Run, Steps};
+use mp4_frag::{Cursor, Row, Rows, Run};
 use mp4_grammar::{CachedLine, Sample};
 use mp4_init::TrackList;
 use mp4_machine::Block;
@@ -119,26 +118,18 @@ pub(crate) fn put_run<W: Sink>(
     put_rows(run, &mut run.rows(moof_bytes), run.first_cursor(), out, w)
 }
 
-/// Puts the lines of the samples of the pending moof, its runs in the order in which they are taken. They are so many,
-/// and are counted in `steps` as rows that were read.
+/// Puts the lines of the samples of the pending moof, its runs in the order in which they are taken.
 pub(crate) fn put_runs<W: Sink>(
     pending_moof: &PendingMoof,
-    samples: u64,
     tracks: &TrackList,
-    steps: &mut Steps,
     out: &mut Block,
     w: &mut W,
 ) -> Result<(), Failed>
-    requires pending_moof { IsPendingMoof (Some tracks.now) pending_moof.now }
-    requires steps { steps.old.rows < 2 ^ 127 }
-    requires samples { samples ≡ moof_samples (moof_in pending_moof.now) }
-    ensures rows_read { steps.new.rows ≡
-        steps.old.rows + moof_samples (moof_in pending_moof.now) }
-    ensures puts { Puts (sent W.contents W.has_failed w.old w.new) out.old out.new
+    requires { IsPendingMoof (Some tracks.now) pending_moof.now }
+    ensures { Puts (sent W.contents W.has_failed w.old w.new) out.old out.new
         (lines_of pending_moof.now tracks.now) result }
 {
     let moof = pending_moof.moof(tracks);
-    steps.rows += u128::from(samples);
     let mut i = 0;
     while i < pending_moof.runs.len() {
         let run = pending_moof.runs.at(i, &moof, tracks);

@@ -1,26 +1,23 @@
 //! The lines of a fragment's trafs, or their records.
 
-ghost use Rattle.std.specs.Prelude.{ℕ, ◌≡◌, ◌+◌, ◌*◌, ◌<◌, ◌≤◌, ◌^◌, ◌∷◌, [], IfSome, Some, length};
+ghost use Rattle.std.specs.Prelude.{ℕ, ◌≡◌, ◌+◌, ◌≤◌, ◌^◌, ◌∷◌, [], IfSome, Some, length};
 ghost use Rattle.std.specs.List.{AllByRecursion, flat_map};
 ghost use Rattle.mp4_box.specs.Headers.{IsWhole};
-ghost use Rattle.mp4_frag.specs.Moofs.{IsRead, moof_samples};
+ghost use Rattle.mp4_frag.specs.Moofs.{IsRead};
 ghost use Rattle.mp4_frag.specs.SingleRuns.{IsSingle};
 ghost use Rattle.mp4_traf.specs.Ranges.{IsRunOf, IsSound};
 ghost use Rattle.mp4_traf.specs.Runs.{TrackFragment, moof_at, runs_of};
 ghost use Rattle.mp4_grammar.specs.FragmentLines.{traf_with};
 ghost use Rattle.mp4_grammar.specs.Presented.{presented_of};
 ghost use Rattle.mp4_traf.specs.TrafTotals.{totals_of};
-ghost use Rattle.mp4_grammar.specs.declared.command.Command.TheVariants.{Fragments, Records};
 ghost use Rattle.mp4_machine.specs.Bodies.{least_end, longest};
 ghost use Rattle.mp4_machine.specs.Ends.{sent};
 ghost use Rattle.mp4_machine.specs.Puts.{Puts};
-ghost use Rattle.mp4_fragment_machine.specs.States.{IsPendingMoof, moof_in};
 ghost use Rattle.mp4_fragment_machine.specs.Implementation.TrafLines.{moof_lines, put_of, put_with, size_with};
 
-use crate::pending_moof::PendingMoof;
 use mp4_box::{Header, Size};
 use mp4_ends::{Failed, Sink};
-use mp4_frag::{Moof, Run, SingleRun, Steps, Traf, TrafTotals, Trafs};
+use mp4_frag::{Moof, Run, SingleRun, Traf, TrafTotals, Trafs};
 use mp4_grammar::{Command, ListedTraf, Presented, TrafRecord};
 use mp4_init::TrackList;
 use mp4_machine::Block;
@@ -115,11 +112,11 @@ fn put_trafs<W: Sink>(
     }
 }
 
-/// Puts the lines of the trafs of a moof at `at`, or their records, whose fragment has `size` bytes; none where its
-/// mdat goes to the end of the stream. `moof_bytes` are its bytes.
+/// Puts the lines of the trafs of a moof at `at`, or their records, whose fragment has `size` bytes; none where its mdat
+/// goes to the end of the stream. `moof_bytes` are its bytes.
 // A call of its own, so that other commands don't clear its locals for each fragment.
 #[inline(never)]
-pub(crate) fn put_moof_lines<W: Sink>(
+fn list_trafs<W: Sink>(
     command: Command,
     moof_bytes: &[u8],
     at: u64,
@@ -147,6 +144,28 @@ pub(crate) fn put_moof_lines<W: Sink>(
         out,
         w,
     )
+}
+
+/// Puts what is asked for of the trafs of a moof, as [`list_trafs`]: nothing where neither lines nor records are.
+#[inline(always)]
+pub(crate) fn put_moof_lines<W: Sink>(
+    command: Command,
+    moof: &Moof<'_>,
+    size: Option<u64>,
+    tracks: &TrackList,
+    out: &mut Block,
+    w: &mut W,
+) -> Result<(), Failed>
+    requires { IsRead moof.now tracks.now }
+    ensures { Puts (sent W.contents W.has_failed w.old w.new) out.old out.new
+        (moof_lines command moof.now tracks.now size) result }
+{
+    match command {
+        Command::Check | Command::Samples => Ok(()),
+        Command::Fragments | Command::Records => {
+            list_trafs(command, moof.bytes(), moof.offset(), size, tracks, out, w)
+        }
+    }
 }
 
 /// The only traf of a moof at `at`, whose only run was read, and whose fragment has `size` bytes. `moof_bytes` are its
@@ -177,29 +196,11 @@ fn single_traf(
     )
 }
 
-/// Puts the line of the only traf of a moof at `at`, as [`single_traf`] reads it.
+/// Puts the line of the only traf of a moof at `at`, or its record, as [`single_traf`] reads it.
 // A call of its own, so that other commands don't clear its locals for each fragment.
 #[inline(never)]
-pub(crate) fn put_single_line<W: Sink>(
-    moof_bytes: &[u8],
-    at: u64,
-    single_run: &SingleRun,
-    size: u64,
-    tracks: &TrackList,
-    out: &mut Block,
-    w: &mut W,
-) -> Result<(), Failed>
-    requires { IsRunOf moof_bytes.now single_run.now.run }
-    ensures { IsSingle (moof_at moof_bytes.now at) tracks.now single_run.now →
-        Puts (sent W.contents W.has_failed w.old w.new) out.old out.new
-        (moof_lines Fragments (moof_at moof_bytes.now at) tracks.now (Some size)) result }
-{
-    out.put_line(w, &single_traf(moof_bytes, at, single_run, size, tracks))
-}
-
-/// Puts the record of the only traf of a moof at `at`, as [`single_traf`] reads it.
-#[inline(never)]
-pub(crate) fn put_single_record<W: Sink>(
+pub(crate) fn put_single_traf<W: Sink>(
+    command: Command,
     moof_bytes: &[u8],
     at: u64,
     single_run: &SingleRun,
@@ -211,15 +212,15 @@ pub(crate) fn put_single_record<W: Sink>(
     requires run { IsRunOf moof_bytes.now single_run.now.run }
     requires single_run { IsSingle (moof_at moof_bytes.now at) tracks.now single_run.now }
     ensures { Puts (sent W.contents W.has_failed w.old w.new) out.old out.new
-        (moof_lines Records (moof_at moof_bytes.now at) tracks.now (Some size)) result }
+        (moof_lines command (moof_at moof_bytes.now at) tracks.now (Some size)) result }
 {
     let traf = single_traf(moof_bytes, at, single_run, size, tracks);
-    put_traf(Command::Records, &traf, tracks, out, w)
+    put_traf(command, &traf, tracks, out, w)
 }
 
 /// How many bytes a fragment has, whose moof has so many, and whose mdat has this header; none where the mdat goes to
 /// the end of the stream.
-fn size_of(moof_len: u64, header: &Header) -> Option<u64>
+pub(crate) fn size_of(moof_len: u64, header: &Header) -> Option<u64>
     requires { least_end moof_len header.now header.now.size ≤ longest }
     ensures { (at : ℕ) → result ≡ size_with at moof_len header.now.size }
 {
@@ -227,39 +228,4 @@ fn size_of(moof_len: u64, header: &Header) -> Option<u64>
         Size::Exact(size) => Some(moof_len + size),
         Size::ToEnd => None,
     }
-}
-
-/// Puts the lines of the trafs of the pending moof, or their records, whose mdat has this header. Its samples, which
-/// are so many, are counted in `steps` as rows that were read twice.
-pub(crate) fn put_pending_lines<W: Sink>(
-    command: Command,
-    pending_moof: &PendingMoof,
-    header: &Header,
-    samples: u64,
-    tracks: &TrackList,
-    steps: &mut Steps,
-    out: &mut Block,
-    w: &mut W,
-) -> Result<(), Failed>
-    requires pending_moof { IsPendingMoof (Some tracks.now) pending_moof.now }
-    requires near { least_end (pending_moof.now.moof.at + pending_moof.now.moof.size)
-        header.now header.now.size ≤ longest }
-    requires steps { steps.old.rows < 2 ^ 127 }
-    requires samples { samples ≡ moof_samples (moof_in pending_moof.now) }
-    ensures rows_read { steps.new.rows ≡
-        steps.old.rows + 2 * moof_samples (moof_in pending_moof.now) }
-    ensures puts { Puts (sent W.contents W.has_failed w.old w.new) out.old out.new
-        (moof_lines command (moof_in pending_moof.now) tracks.now
-        (size_with pending_moof.now.moof.at (length pending_moof.now.moof.bytes) header.now.size)) result }
-{
-    steps.rows += 2 * u128::from(samples);
-    put_moof_lines(
-        command,
-        pending_moof.moof.bytes(),
-        pending_moof.moof.offset(),
-        size_of(pending_moof.moof.size(), header),
-        tracks,
-        out,
-        w,
-    )
 }

@@ -7,11 +7,12 @@ use Rattle.mp4_fragment_machine.proofs.in_place.fragment.payload_after.Goals as 
 pub overflow_add-result : goal.overflow_add-result
 overflow_add-result c =
     let b = c.args.boxes.now in
-    let are = c.requires.are in
+    let input = c.requires.0 in
+    let are = c.requires.1 in
     let next = c.args.at + are.span.size in
-    omega (arith, moof_len c.args.at c.args.input.now b are, first_fits Mdat next (drop are.span.size c.args.input.now) b.mdat are.mdat, are.mdat.near)
+    omega (arith, moof_len c.args.at input b are, first_fits Mdat next (drop are.span.size input) b.mdat are.mdat, are.mdat.near)
 
 pub returns : goal.returns
-returns c = λ are.
+returns c = λ input are.
     let b = c.args.boxes.now in
-    ap (λ k. payload_in (c.args.at + k) b.mdat) (moof_len c.args.at c.args.input.now b are)
+    ap (λ k. payload_in (c.args.at + k) b.mdat) (moof_len c.args.at input b are)

@@ -10,16 +10,16 @@ use Rattle.mp4_fragment_machine.proofs.FragmentLemmas.{inspected_more, single_is
 use Rattle.mp4_fragment_machine.proofs.RefuseInPlaceLemmas.{StopsAt-misplaced, StopsIn-whole, few_rows}
 use Rattle.mp4_fragment_machine.proofs.in_place.one_run.refuse_place.Goals as goal
 
-pub overflow_add-carried : goal.overflow_add-carried
-overflow_add-carried c = let i = c.requires.can.counted in omega (arith, i.inspected, i.far, c.from-samples.ensures)
+pub inspect-requires-clause-inspected : goal.inspect-requires-clause-inspected
+inspect-requires-clause-inspected c = let i = c.requires.can.counted in omega (arith, i.inspected, i.far, c.from-samples.ensures)
 
-pub overflow_add-carried-2 : goal.overflow_add-carried-2
-overflow_add-carried-2 c =
+pub inspect-requires-clause-steps : goal.inspect-requires-clause-steps
+inspect-requires-clause-steps c =
     let i = c.requires.can.counted in
     omega (arith, few_rows c.args.carried.now.operation c.args.carried.now.counter c.args.at i, i.inspected, i.far, c.from-samples.ensures)
 
 pub returns-clause-stops : goal.returns-clause-stops
-returns-clause-stops c = λ u.
+returns-clause-stops c = λ u. rw c.inspect.ensures (
     let carried = c.args.carried.now in
     let list = known carried.tracks in
     let at = c.args.at in
@@ -37,4 +37,4 @@ returns-clause-stops c = λ u.
     (rw c.claim.ensures (omega (arith, low)))
     (counted_unlisted carried.operation _ (at + are.span.size) l.run.count
     (counted_moof carried.operation carried.counter _ h at are.span.size (2 * c.from-samples.result) l.run.count c.requires.can.counted (some_moof at input b are) are.moof.near (omega (arith, few, c.requires.single_run.samples)) tally refl (omega (arith, all, c.from-samples.ensures)) (omega (arith, c.requires.single_run.samples))))
-    (λ more. StopsAt-misplaced (operation_meaning carried.operation) (number_in carried.operation carried.counter.tally) o at list input b are low l c.requires.single_run c.claim.new.ledger _ c.claim.ensures tally more c.args.fault (c.requires.misplaced are))
+    (λ more. StopsAt-misplaced (operation_meaning carried.operation) (number_in carried.operation carried.counter.tally) o at list input b are low l c.requires.single_run c.claim.new.ledger _ c.claim.ensures tally more c.args.fault (c.requires.misplaced are)))

@@ -10,20 +10,20 @@ use Rattle.mp4_fragment_machine.proofs.StepLemmas.{counted_stop}
 use Rattle.mp4_fragment_machine.proofs.RefuseInPlaceLemmas.{StopsAt-late, StopsIn-whole, few_rows, few_samples}
 use Rattle.mp4_fragment_machine.proofs.in_place.one_run.refuse_times.Goals as goal
 
-pub overflow_add-carried : goal.overflow_add-carried
-overflow_add-carried c =
+pub inspect-requires-clause-inspected : goal.inspect-requires-clause-inspected
+inspect-requires-clause-inspected c =
     let few = few_samples (moof_at c.args.boxes.now.moof.now c.args.at) (known c.args.carried.now.tracks) c.requires.good in
     let i = c.requires.can.counted in
     omega (arith, i.inspected, i.far, few, c.requires.samples)
 
-pub overflow_add-carried-2 : goal.overflow_add-carried-2
-overflow_add-carried-2 c =
+pub inspect-requires-clause-steps : goal.inspect-requires-clause-steps
+inspect-requires-clause-steps c =
     let few = few_samples (moof_at c.args.boxes.now.moof.now c.args.at) (known c.args.carried.now.tracks) c.requires.good in
     let i = c.requires.can.counted in
     omega (arith, few_rows c.args.carried.now.operation c.args.carried.now.counter c.args.at i, i.inspected, i.far, few, c.requires.samples)
 
 pub returns-clause-stops : goal.returns-clause-stops
-returns-clause-stops c = λ u.
+returns-clause-stops c = λ u. rw c.inspect.ensures (
     let carried = c.args.carried.now in
     let list = known carried.tracks in
     let at = c.args.at in
@@ -35,7 +35,7 @@ returns-clause-stops c = λ u.
     let low = rw c.requires.known at c.requires.can.claim in
     let few = few_samples h list c.requires.good in
     let tally = inspected_more carried.counter.tally h c.args.samples c.requires.samples in
-    StopsIn-whole (ledger_alone u c.args.ledger.now c.count_claim.new.self) carried _ at input c.args.fault list c.requires.known c.requires.empty refl refl refl c.requires.empty
-    (rw c.in-Ok.ensures.ok (omega (arith, low)))
+    StopsIn-whole (ledger_alone u c.args.ledger.now c.count_allowed.new.ledger) carried _ at input c.args.fault list c.requires.known c.requires.empty refl refl refl c.requires.empty
+    (rw c.count_allowed.ensures (omega (arith, low)))
     (counted_stop carried.operation _ (at + are.span.size) (counted_moof carried.operation carried.counter _ h at are.span.size c.args.samples 0 c.requires.can.counted (some_moof at input b are) are.moof.near few tally refl (omega (arith, c.requires.samples)) (omega arith)))
-    (λ more. StopsAt-late (operation_meaning carried.operation) (number_in carried.operation carried.counter.tally) o at list input b are low c.count_claim.new.self _ c.in-Ok.ensures.ok tally more c.args.fault c.requires.good c.requires.late)
+    (λ more. StopsAt-late (operation_meaning carried.operation) (number_in carried.operation carried.counter.tally) o at list input b are low c.count_allowed.new.ledger _ c.count_allowed.ensures tally more c.args.fault c.requires.good c.requires.late))

@@ -1,4 +1,4 @@
-use Rattle.std.proofs.Common.{◌≡◌, ◌∙◌, ◌+◌, Err, ap, arith}
+use Rattle.std.proofs.Common.{◌≡◌, ◌∙◌, ◌+◌, Err, ap, arith, refl}
 use Rattle.mp4_fragment_machine.specs.States.{Progress}
 use Rattle.mp4_fragment_machine.specs.Implementation.Steps.{borrowed}
 use Rattle.mp4_fragment_machine.specs.declared.state.State.TheVariants as states
@@ -30,7 +30,7 @@ returns-in-Err-WriteFailed g c = record {
   failed = λ _.
       let state : c.self.inside.state ≡ states.Header c.args.at = ap (λ (p : Progress). p.state) c.self.view_is ∙ c.requires.found.state in
       let stopped = c.in-Err-WriteFailed.ensures.failed (ap Err c.in-Err-WriteFailed.field-0-is) in
-      let back = rw (c.stop_at.ensures, stopped.tracks) at c.give_back.ensures.back in
-      rw (← c.self.view_is, state, back, c.give_back.ensures.counted)
-      (record { step = stopped.step; spent = rw c.give_back.ensures.counted at c.give_back.ensures.spent; operation = rw c.give_back.ensures.task stopped.operation });
+      let back = rw stopped.tracks at c.stop_at.ensures.back in
+      rw (← c.self.view_is, state, c.stop_at.ensures.state, c.stop_at.ensures.carried, back)
+      (record { step = stopped.step; spent = refl; operation = stopped.operation });
 }

@@ -1,4 +1,4 @@
-use Rattle.std.proofs.Common.{◌≡◌, ◌∙◌, false, None, ap, rules}
+use Rattle.std.proofs.Common.{◌≡◌, ◌∙◌, false, None, ap, refl, rules}
 use Rattle.mp4_machine.specs.Blocks.{unused}
 use Rattle.mp4_fragment_machine.specs.Places.{Untouched}
 use Rattle.mp4_fragment_machine.specs.States.{Progress}
@@ -13,16 +13,16 @@ pub returns : goal.returns
 returns c = λ u.
     let state : c.self.inside.state ≡ states.Header c.args.at = ap (λ (p : Progress). p.state) c.self.view_is ∙ c.requires.found.boxes.state in
     let stopped = c.refuse_times-stop.ensures.stops u in
-    let back = rw (c.stop_at.ensures, stopped.tracks) at c.give_back.ensures.back in
-    rw (← c.self.view_is, state, back, c.give_back.ensures.counted)
-    (record { step = stopped.step; spent = rw c.give_back.ensures.counted at c.give_back.ensures.spent; operation = rw c.give_back.ensures.task stopped.operation })
+    let back = rw stopped.tracks at c.stop_at.ensures.back in
+    rw (← c.self.view_is, state, c.stop_at.ensures.state, c.stop_at.ensures.carried, back)
+    (record { step = stopped.step; spent = refl; operation = stopped.operation })
 
 pub invariant_of-self : goal.invariant_of-self
 invariant_of-self c =
     let stopped = c.refuse_times-stop.ensures.stops no_writer in
-    rw (c.stop_at.ensures, stopped.empty) (search rules, stopped.counted)
+    rw (c.stop_at.ensures.state, c.stop_at.ensures.carried) (search rules, stopped.counted)
 
-pub give_back-requires : goal.give_back-requires
-give_back-requires c =
+pub stop_at-requires-clause-claim : goal.stop_at-requires-clause-claim
+stop_at-requires-clause-claim c =
     let stopped = c.refuse_times-stop.ensures.stops no_writer in
-    rw (c.stop_at.ensures, stopped.tracks) stopped.left
+    rw stopped.tracks stopped.left

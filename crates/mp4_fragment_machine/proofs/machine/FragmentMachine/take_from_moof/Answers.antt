@@ -24,7 +24,7 @@ take_one_run-requires-clause-found g c =
     let placed = rw c.in-Ok-Some.run-is at c.places.ensures in
     rw c.in-Ok-Some.run-is (record {
       boxes = record { state = first.state; empty = first.empty; tracks = first.tracks; are = are; room = c.in-Some-Some.ensures.room };
-      is = rw (← c.self.view_is, c.in-Some-Some.is-1) (record { boxes = are; single_run = single_run; is_placed = subst (λ p. place_fault p (run.run ∷ []) ≡ None) (c.payload_after-payload.ensures are) (sym placed ∙ ap fault_of c.in-Ok.is) });
+      is = rw (← c.self.view_is, c.in-Some-Some.is-1) (record { boxes = are; single_run = single_run; is_placed = subst (λ p. place_fault p (run.run ∷ []) ≡ None) (c.payload_after-payload.ensures c.args.input.now are) (sym placed ∙ ap fault_of c.in-Ok.is) });
       taken = rw (← c.self.view_is) (c.tries_in_place.ensures run c.if-tries_in_place.true (single_is (moof_at boxes.moof.now c.args.at) c.in-Some-Some.list run single_run).few);
     })
 
@@ -38,7 +38,7 @@ refuse_misplaced-requires-clause-found g c =
     rw c.in-Ok-Some.run-is (record {
       boxes = record { state = first.state; empty = first.empty; tracks = first.tracks; are = are; room = c.in-Some-Some.ensures.room };
       single_run = rw (← c.self.view_is, c.in-Some-Some.is-1) single_run;
-      misplaced = subst (λ p. place_fault p (run.run ∷ []) ≡ Some c.in-Err-places.fault) (c.payload_after-payload.ensures are) (sym placed ∙ ap fault_of c.in-Err-places.is);
+      misplaced = subst (λ p. place_fault p (run.run ∷ []) ≡ Some c.in-Err-places.fault) (c.payload_after-payload.ensures c.args.input.now are) (sym placed ∙ ap fault_of c.in-Err-places.is);
     })
 
 pub refuse_late-requires-clause-found : goal.refuse_late-requires-clause-found
@@ -59,3 +59,8 @@ returns-in-Err-places g c =
 pub returns-in-Err : goal.returns-in-Err
 returns-in-Err g c =
     c.refuse_late.ensures (record { written = g.W.Sink.contents c.args.w.now; waiting = c.args.out.now; failed = g.W.Sink.has_failed c.args.w.now })
+
+pub list_in_place-requires-clause-found : goal.list_in_place-requires-clause-found
+list_in_place-requires-clause-found g c =
+    let first = c.requires.first in
+    record { state = first.state; empty = first.empty; tracks = first.tracks; are = c.in-Some-Some.ensures.are; room = c.in-Some-Some.ensures.room }

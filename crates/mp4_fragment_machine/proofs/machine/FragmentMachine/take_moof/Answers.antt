@@ -1,4 +1,4 @@
-use Rattle.std.proofs.Common.{◌≡◌, ◌∙◌, ap}
+use Rattle.std.proofs.Common.{◌≡◌, ◌∙◌, ap, refl}
 use Rattle.mp4_fragment_machine.specs.States.{Progress}
 use Rattle.mp4_fragment_machine.specs.Implementation.Steps.{borrowed}
 use Rattle.mp4_fragment_machine.specs.declared.state.State.TheVariants as states
@@ -18,6 +18,9 @@ pub returns-in-Err : goal.returns-in-Err
 returns-in-Err g c =
     let state : c.self.inside.state ≡ states.Header c.args.at = ap (λ (p : Progress). p.state) c.self.view_is ∙ c.requires.first.state in
     let stopped = c.in-Err.ensures in
-    let back = rw (c.stop_at.ensures, stopped.tracks) at c.give_back.ensures.back in
-    rw (← c.self.view_is, state, back, c.give_back.ensures.counted)
-    (record { step = stopped.step; spent = rw c.give_back.ensures.counted at c.give_back.ensures.spent; operation = rw c.give_back.ensures.task stopped.operation })
+    let back = rw stopped.tracks at c.stop_at.ensures.back in
+    rw (← c.self.view_is, state, c.stop_at.ensures.state, c.stop_at.ensures.carried, back)
+    (record { step = stopped.step; spent = refl; operation = stopped.operation })
+
+pub stop_at-requires-clause-claim : goal.stop_at-requires-clause-claim
+stop_at-requires-clause-claim g c = let stopped = c.in-Err.ensures in rw stopped.tracks stopped.left

@@ -143,9 +143,8 @@ pub returns-in-Err : goal.returns-in-Err
 returns-in-Err g c =
     let state : c.self.inside.state ≡ states.Header c.args.at = ap (λ (p : Progress). p.state) c.self.view_is ∙ c.requires.found.boxes.state in
     let stopped = stops g (goal.at.returns-in-Err g c).After-stop_at in
-    let back = rw c.stop_at.ensures at c.give_back.ensures.back in
-    rw (← c.self.view_is, state, back, c.give_back.ensures.counted, c.in-Some.is)
-    (record { step = rw c.in-Some.is at stopped.step; spent = rw c.give_back.ensures.counted at c.give_back.ensures.spent; operation = rw c.give_back.ensures.task stopped.operation })
+    rw (← c.self.view_is, state, c.stop_at.ensures.state, c.stop_at.ensures.carried, c.stop_at.ensures.back, c.in-Some.is)
+    (record { step = rw c.in-Some.is at stopped.step; spent = refl; operation = stopped.operation })
 
 pub invariant_of-self : goal.invariant_of-self
 invariant_of-self g c =
@@ -155,4 +154,4 @@ invariant_of-self g c =
 pub invariant_of-self-in-Err : goal.invariant_of-self-in-Err
 invariant_of-self-in-Err g c =
     let stopped = stops g c in
-    rw (c.stop_at.ensures, stopped.empty) (search rules, stopped.counted)
+    rw (c.stop_at.ensures.state, c.stop_at.ensures.carried) (search rules, stopped.counted)

@@ -1,4 +1,4 @@
-use Rattle.std.proofs.Common.{◌≡◌, ◌∙◌, ◌+◌, ap}
+use Rattle.std.proofs.Common.{◌≡◌, ◌∙◌, ◌+◌, ap, refl}
 use Rattle.mp4_fragment_machine.specs.States.{Progress}
 use Rattle.mp4_fragment_machine.specs.Implementation.Steps.{CanStep, borrowed}
 use Rattle.mp4_fragment_machine.specs.declared.state.State.TheVariants as states
@@ -25,6 +25,5 @@ returns-in-Err g c =
     let is = rw state at c.self.invariant in
     let can : CanStep carried c.args.ledger.now (states.Header c.args.at) = record { claim = claim; counted = is.1 } in
     let stopped = c.in-Err.ensures c.args.ledger.now can in
-    let back = rw (c.stop_at.ensures, stopped.tracks) at c.give_back.ensures.back in
-    rw (← c.self.view_is, state, back, c.give_back.ensures.counted)
-    (record { step = stopped.step; spent = rw c.give_back.ensures.counted at c.give_back.ensures.spent; operation = rw c.give_back.ensures.task stopped.operation })
+    rw (← c.self.view_is, state, c.stop_at.ensures.state, c.stop_at.ensures.carried, c.stop_at.ensures.back)
+    (record { step = stopped.step; spent = refl; operation = stopped.operation })

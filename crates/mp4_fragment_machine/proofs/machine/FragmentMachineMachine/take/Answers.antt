@@ -42,10 +42,10 @@ returns-in-Body g c =
     (promised _ _ _ (c.finish_body.ensures (record { written = g.W.Sink.contents c.args.w.now; waiting = c.args.out.now; failed = g.W.Sink.has_failed c.args.w.now })))
 
 pub returns-in-Media : goal.returns-in-Media
-returns-in-Media g c = rw (← c.self.view_is) (promised _ _ _ c.copy_media.ensures)
+returns-in-Media g c = rw (← c.self.view_is) (promised _ _ _ c.take_media.ensures)
 
-pub copy_media-requires : goal.copy_media-requires
-copy_media-requires g c =
+pub take_media-requires : goal.take_media-requires
+take_media-requires g c =
     record {
       some = c.requires.some;
       media = (c.in-Media.field-0, c.in-Media.is);

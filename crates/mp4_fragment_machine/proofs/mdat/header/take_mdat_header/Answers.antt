@@ -39,14 +39,14 @@ pub returns-in-Ok : goal.returns-in-Ok
 returns-in-Ok g c =
     let all = c.in-Complete.ensures.0 in
     elim c.match-carried.branch [
-      | in-List w ↦ rw (w.w-is, w.out-is, w.ledger-is, w.carried-is) (all.some, all.most, GoesTo-then (accepts_mdat_header c.args.carried.now c.args.pending_moof c.requires.state.1 c.requires.can.claim all.are) (rw (c.bytes-head.ensures, sym w.begun-is ∙ c.in-Ok.is) at w.begin_listed-begun.ensures))
-      | in-Split w ↦ rw (w.w-is, w.out-is, w.ledger-is, w.carried-is) (all.some, all.most, GoesTo-then (accepts_mdat_header c.args.carried.now c.args.pending_moof c.requires.state.1 c.requires.can.claim all.are) (rw (c.bytes-head.ensures, sym w.begun-is ∙ c.in-Ok.is) at w.begin_media-begun.ensures))
+      | in-List w ↦ rw (w.w-is, w.out-is, w.ledger-is, w.carried-is) (all.some, all.most, GoesTo-then (accepts_mdat_header c.args.carried.now c.args.pending_moof c.requires.state.1 c.requires.can.claim all.are) (rw (c.bytes-head.ensures, sym w.begun-is ∙ c.in-Ok.is) at w.accept_listed-begun.ensures))
+      | in-Split w ↦ rw (w.w-is, w.out-is, w.ledger-is, w.carried-is) (all.some, all.most, GoesTo-then (accepts_mdat_header c.args.carried.now c.args.pending_moof c.requires.state.1 c.requires.can.claim all.are) (rw (c.bytes-head.ensures, sym w.begun-is ∙ c.in-Ok.is) at w.accept_recut-begun.ensures))
     ]
 
 pub returns-in-Err : goal.returns-in-Err
 returns-in-Err g c =
     let all = c.in-Complete.ensures.0 in
     elim c.match-carried.branch [
-      | in-List w ↦ rw (w.w-is, w.out-is, w.ledger-is, w.carried-is) (StopsIn-then c.in-Complete.count c.args.input.now (accepts_mdat_header c.args.carried.now c.args.pending_moof c.requires.state.1 c.requires.can.claim all.are) (rw (c.bytes-head.ensures, sym w.begun-is ∙ c.in-Err.is) at w.begin_listed-begun.ensures))
-      | in-Split w ↦ rw (w.w-is, w.out-is, w.ledger-is, w.carried-is) (StopsIn-then c.in-Complete.count c.args.input.now (accepts_mdat_header c.args.carried.now c.args.pending_moof c.requires.state.1 c.requires.can.claim all.are) (rw (c.bytes-head.ensures, sym w.begun-is ∙ c.in-Err.is) at w.begin_media-begun.ensures))
+      | in-List w ↦ rw (w.w-is, w.out-is, w.ledger-is, w.carried-is) (StopsIn-then c.in-Complete.count c.args.input.now (accepts_mdat_header c.args.carried.now c.args.pending_moof c.requires.state.1 c.requires.can.claim all.are) (rw (c.bytes-head.ensures, sym w.begun-is ∙ c.in-Err.is) at w.accept_listed-begun.ensures))
+      | in-Split w ↦ rw (w.w-is, w.out-is, w.ledger-is, w.carried-is) (StopsIn-then c.in-Complete.count c.args.input.now (accepts_mdat_header c.args.carried.now c.args.pending_moof c.requires.state.1 c.requires.can.claim all.are) (rw (c.bytes-head.ensures, sym w.begun-is ∙ c.in-Err.is) at w.accept_recut-begun.ensures))
     ]

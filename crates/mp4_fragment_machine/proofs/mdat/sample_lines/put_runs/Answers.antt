@@ -12,18 +12,18 @@ put_run-requires g c =
     let w = c.args.pending_moof.now in
     let h = moof_in w in
     let tracks = c.args.tracks.now in
-    let here : c.loop-i.i < length (taken_runs h tracks) = omega (arith, c.loop-i-test.true, c.len.ensures, rows_taken h tracks w.runs c.requires.pending_moof.list) in
-    let all = taken_are h tracks (omega (arith, c.requires.pending_moof.size, c.requires.pending_moof.near)) c.requires.pending_moof.whole c.bytes.ensures.valid c.requires.pending_moof.read in
+    let here : c.loop-i.i < length (taken_runs h tracks) = omega (arith, c.loop-i-test.true, c.len.ensures, rows_taken h tracks w.runs c.requires.list) in
+    let all = taken_are h tracks (omega (arith, c.requires.size, c.requires.near)) c.requires.whole c.bytes.ensures.valid c.requires.read in
     rw c.bytes.ensures.bytes (run_of_all w.moof.bytes (taken_runs h tracks) c.loop-i.i c.at-run.result all here (rw c.moof-moof.ensures at c.at-run.ensures) (omega arith))
 
-pub returns-in-Err-clause-puts : goal.returns-in-Err-clause-puts
-returns-in-Err-clause-puts g c =
+pub returns-in-Err : goal.returns-in-Err
+returns-in-Err g c =
     let w = c.args.pending_moof.now in
     let h = moof_in w in
     let tracks = c.args.tracks.now in
     let run = c.at-run.result in
     let text = c.loop-i.invariant.text in
-    let here : c.loop-i.i < length (taken_runs h tracks) = omega (arith, c.loop-i-test.true, c.len.ensures, rows_taken h tracks w.runs c.requires.pending_moof.list) in
+    let here : c.loop-i.i < length (taken_runs h tracks) = omega (arith, c.loop-i-test.true, c.len.ensures, rows_taken h tracks w.runs c.requires.list) in
     let at = rw c.moof-moof.ensures at c.at-run.ensures in
     let put = rw c.bytes.ensures.bytes at c.in-Err.ensures in
     HasFailed-front (text ++ sample_lines (samples_of_run w.moof.bytes run)) (sample_lines (flat_map (samples_of_run w.moof.bytes) (drop (c.loop-i.i + 1) (taken_runs h tracks)))) (lines_of w tracks)
@@ -37,7 +37,7 @@ loop-i-preserved g c =
     let tracks = c.args.tracks.now in
     let run = c.at-run.result in
     let text = c.loop-i.invariant.text in
-    let here : c.loop-i.i < length (taken_runs h tracks) = omega (arith, c.loop-i-test.true, c.len.ensures, rows_taken h tracks w.runs c.requires.pending_moof.list) in
+    let here : c.loop-i.i < length (taken_runs h tracks) = omega (arith, c.loop-i-test.true, c.len.ensures, rows_taken h tracks w.runs c.requires.list) in
     let at = rw c.moof-moof.ensures at c.at-run.ensures in
     let put = rw c.bytes.ensures.bytes at c.in-Ok.ensures in
     record {

@@ -16,7 +16,7 @@ use Rattle.mp4_fragment_machine.proofs.ExtentLemmas.{bound_in-begun, claim_in}
 use Rattle.mp4_fragment_machine.proofs.BodyLemmas.{Moves-settled}
 use Rattle.mp4_fragment_machine.proofs.CountLemmas.{counted_ended}
 use Rattle.mp4_fragment_machine.proofs.StepLemmas.{no_head}
-use Rattle.mp4_fragment_machine.proofs.mdat.accept_recut.enter_split.Goals as goal
+use Rattle.mp4_fragment_machine.proofs.mdat.accept_recut.enter_media.Goals as goal
 
 pub returns-in-Empty : goal.returns-in-Empty
 returns-in-Empty c = λ cut number u operation split.

@@ -2,15 +2,15 @@ use Rattle.std.proofs.Common.{◌∙◌, ap}
 use Rattle.mp4_fragment_machine.specs.States.{Progress}
 use Rattle.mp4_fragment_machine.specs.Implementation.Steps.{borrowed}
 use Rattle.mp4_fragment_machine.proofs.FeedLemmas.{fed}
-use Rattle.mp4_fragment_machine.proofs.machine.FragmentMachine.copy_media.Goals as goal
+use Rattle.mp4_fragment_machine.proofs.machine.FragmentMachine.take_media.Goals as goal
 
-pub take_split-requires-clause-media : goal.take_split-requires-clause-media
-take_split-requires-clause-media g c =
+pub take_recut-requires-clause-media : goal.take_recut-requires-clause-media
+take_recut-requires-clause-media g c =
     (c.requires.media.0, ap (λ (p : Progress). p.state) c.self.view_is ∙ c.requires.media.1)
 
 pub returns-in-Ok : goal.returns-in-Ok
 returns-in-Ok g c =
-    let new = c.take_split.new in
+    let new = c.take_recut.new in
     let l = borrowed g.W.Sink.contents g.W.Sink.has_failed c.args.w.now new.w c.args.out.now new.out c.args.ledger.now new.ledger in
     rw (← c.self.view_is)
     (fed l c.self.inside.carried new.carried c.self.inside.state new.current c.args.input.now c.in-Ok.taken c.in-Ok.ensures)

@@ -17,9 +17,9 @@ use Rattle.mp4_fragment_machine.proofs.EndLemmas.{Ends, GoesTo-ended}
 use Rattle.mp4_fragment_machine.proofs.EnterLemmas.{GoesTo-entered}
 use Rattle.mp4_fragment_machine.proofs.CountLemmas.{counted_later, counted_unlisted}
 use Rattle.mp4_fragment_machine.proofs.StepLemmas.{GoesTo-after}
-use Rattle.mp4_fragment_machine.proofs.mdat.accept_list.begin_listed.Goals as goal
-use Rattle.mp4_fragment_machine.proofs.mdat.accept_list.begin_listed.Goals.{In-Ok-emit}
-use Rattle.mp4_fragment_machine.proofs.mdat.accept_list.begin_listed.Given.{Over}
+use Rattle.mp4_fragment_machine.proofs.mdat.accept_list.accept_listed.Goals as goal
+use Rattle.mp4_fragment_machine.proofs.mdat.accept_list.accept_listed.Goals.{In-Ok-emit}
+use Rattle.mp4_fragment_machine.proofs.mdat.accept_list.accept_listed.Given.{Over}
 
 pub returns-in-Err : goal.returns-in-Err
 returns-in-Err g c =

@@ -1,5 +1,5 @@
 use Rattle.std.proofs.Common.{rules, arith, ◌≡◌, ◌≤◌, length, length-take-le, refl, take}
-use Rattle.mp4_fragment_machine.proofs.mdat.recut.take_media.Goals as goal
+use Rattle.mp4_fragment_machine.proofs.mdat.recut.recut_front.Goals as goal
 
 pub returns-in-Ok-clause-takes : goal.returns-in-Ok-clause-takes
 returns-in-Ok-clause-takes g c =
