@@ -30,7 +30,7 @@ pub(crate) fn inspect(counter: &mut Counter, samples: u128, rows: u128)
     counter.steps.rows += rows;
 }
 
-/// Counts the samples of a fragment that is accepted, with so many bytes of media.
+/// Counts the samples of a fragment that is accepted and recut, with so many bytes of media.
 #[inline(always)]
 pub(crate) fn count_samples(tally: &mut Tally, samples: u64, bytes: u64)
     requires samples { tally.old.samples + samples < 2 ^ 128 }
@@ -44,8 +44,8 @@ pub(crate) fn count_samples(tally: &mut Tally, samples: u64, bytes: u64)
     tally.media_bytes += bytes;
 }
 
-/// Counts a fragment that is accepted and not recut, with so many samples and bytes of media, and the rows that are
-/// read for its lines.
+/// Counts a fragment that is accepted and listed, with so many samples and bytes of media, and the rows that are read
+/// for its lines.
 #[inline(always)]
 pub(crate) fn accept(counter: &mut Counter, command: Command, samples: u64, bytes: u64)
     requires fragments { counter.old.tally.fragments + 1 < 2 ^ 64 }
@@ -57,18 +57,11 @@ pub(crate) fn accept(counter: &mut Counter, command: Command, samples: u64, byte
         counter.old.steps.rows + listed_by (operations.List command) samples }
 {
     counter.tally.fragments += 1;
-    count_samples(&mut counter.tally, samples, bytes);
-    counter.steps.rows += reads_for_lines(command, samples);
-}
-
-/// How many rows are read for the lines of so many samples.
-#[inline(always)]
-fn reads_for_lines(command: Command, samples: u64) -> u128
-    ensures { result ≡ listed_by (operations.List command) samples }
-{
+    counter.tally.samples += u128::from(samples);
+    counter.tally.media_bytes += bytes;
     match command {
-        Command::Check => 0,
-        Command::Samples => u128::from(samples),
-        Command::Fragments | Command::Records => 2 * u128::from(samples),
+        Command::Check => {}
+        Command::Samples => counter.steps.rows += u128::from(samples),
+        Command::Fragments | Command::Records => counter.steps.rows += 2 * u128::from(samples),
     }
 }

@@ -14,12 +14,12 @@ ghost use Rattle.mp4_fragment_machine.specs.Implementation.Steps.{CanStep, Accep
 ghost use Rattle.mp4_fragment_machine.specs.Implementation.InPlace.{WasReadInPlace};
 ghost use Rattle.mp4_fragment_machine.specs.declared.state.State.TheVariants as states;
 
-use crate::counter::Counter;
+use crate::counter::{Counter, inspect};
 use crate::in_place::attempt::InPlaceRead;
 use crate::pending_moof::PendingMoof;
 use crate::state::Carried;
 use mp4_box::Fault;
-use mp4_frag::Moof;
+use mp4_frag::{Moof, Steps};
 use mp4_init::TrackList;
 use mp4_ledger::Ledger;
 use mp4_machine::{BufferedBox, Stop};
@@ -114,14 +114,9 @@ fn read_moof<'a>(
             Err(fault) => Err(fault),
         };
     }
-    let before = counter.steps.rows;
-    let read = Moof::read(
-        buffered.bytes(),
-        buffered.offset(),
-        tracks,
-        &mut counter.steps,
-    );
-    counter.tally.inspected += counter.steps.rows - before;
+    let mut steps = Steps { rows: 0 };
+    let read = Moof::read(buffered.bytes(), buffered.offset(), tracks, &mut steps);
+    inspect(counter, steps.rows, steps.rows);
     match read {
         Ok(moof) => Ok(moof),
         Err(fault) => Err(fault),

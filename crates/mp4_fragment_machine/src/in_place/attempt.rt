@@ -120,8 +120,9 @@ fn runs_in_order(
     moof.following(payload_after(at, boxes), tracks, read_rows)
 }
 
-/// Reads the moof of a fragment, claims it, and counts its samples as inspected, if its trafs have early times of their
-/// own, nothing is at fault with it, its runs follow one another, and the moof and their list might be claimed.
+/// Reads the moof of a fragment, and counts its claim, its samples as inspected and its rows, if its trafs have early
+/// times of their own, nothing is at fault with it, its runs follow one another, and the moof and their list might be
+/// claimed.
 ///
 /// # Errors
 ///

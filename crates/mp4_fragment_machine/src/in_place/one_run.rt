@@ -72,7 +72,7 @@ impl FragmentMachine {
         let Some(list) = &mut self.carried.tracks else {
             unreachable!();
         };
-        claim(&complete.boxes, ledger);
+        count_allowed(ledger, complete.boxes.moof.len() as u64 + ROW);
         let counter = &mut self.carried.counter;
         let put = match self.carried.operation {
             Operation::List(command) => list_run(command, at, complete, list, counter, out, w),
@@ -134,17 +134,7 @@ impl FragmentMachine {
     }
 }
 
-/// Counts the claim of the moof of a fragment, and of the row of its run.
-#[inline(always)]
-fn claim(boxes: &Boxes<'_>, ledger: &mut Ledger)
-    requires { ledger.old.live + (length boxes.now.moof.now + 64) ≤ ledger.old.limit }
-    ensures { ledger.new ≡ given_back (claimed ledger.old (length boxes.now.moof.now + 64))
-        (length boxes.now.moof.now + 64) }
-{
-    count_allowed(ledger, boxes.moof.len() as u64 + ROW);
-}
-
-/// Counts a claim of so many bytes, which the limit allows.
+/// Counts a claim of so many bytes, which the limit allows: of a moof, with the row of its run where that was read.
 #[inline(always)]
 fn count_allowed(ledger: &mut Ledger, bytes: u64)
     requires { ledger.old.live + bytes ≤ ledger.old.limit }
@@ -187,14 +177,14 @@ fn list_run<W: Sink>(
         (at + length complete.now.boxes.moof.now + complete.now.boxes.mdat.size) 0 0 }
 {
     let run = &complete.run.run;
-    let Boxes { moof, mdat } = complete.boxes;
+    let moof = complete.boxes.moof;
     inspect(counter, u128::from(run.count), 2 * u128::from(run.count));
     accept(counter, command, u64::from(run.count), run.bytes);
     match command {
         Command::Check => Ok(()),
         Command::Samples => sample_lines::put_run(run, moof, out, w),
         Command::Fragments | Command::Records => {
-            let size = moof.len() as u64 + mdat.size;
+            let size = moof.len() as u64 + complete.boxes.mdat.size;
             put_single_traf(command, moof, at, complete.run, size, tracks, out, w)
         }
     }
@@ -310,7 +300,7 @@ fn refuse_place(
     ensures rows_read { carried.new.counter.steps.rows ≡ carried.old.counter.steps.rows +
         2 * complete.now.run.now.run.count }
 {
-    claim(&complete.boxes, ledger);
+    count_allowed(ledger, complete.boxes.moof.len() as u64 + ROW);
     let samples = u128::from(complete.run.run.count);
     inspect(&mut carried.counter, samples, 2 * samples);
     Stop::Stream(fault)

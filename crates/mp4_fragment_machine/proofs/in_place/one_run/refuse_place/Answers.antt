@@ -33,8 +33,8 @@ returns-clause-stops c = λ u. rw c.inspect.ensures (
     let few = (single_is h list l c.requires.single_run).few in
     let all : c.from-samples.result ≡ moof_samples h = omega (arith, c.from-samples.ensures, c.requires.single_run.samples) in
     let tally = inspected_more carried.counter.tally h c.from-samples.result all in
-    StopsIn-whole (ledger_alone u c.args.ledger.now c.claim.new.ledger) carried _ at input c.args.fault list c.requires.known c.requires.empty refl refl refl c.requires.empty
-    (rw c.claim.ensures (omega (arith, low)))
+    StopsIn-whole (ledger_alone u c.args.ledger.now c.count_allowed.new.ledger) carried _ at input c.args.fault list c.requires.known c.requires.empty refl refl refl c.requires.empty
+    (rw c.count_allowed.ensures (omega (arith, low)))
     (counted_unlisted carried.operation _ (at + are.span.size) l.run.count
     (counted_moof carried.operation carried.counter _ h at are.span.size (2 * c.from-samples.result) l.run.count c.requires.can.counted (some_moof at input b are) are.moof.near (omega (arith, few, c.requires.single_run.samples)) tally refl (omega (arith, all, c.from-samples.ensures)) (omega (arith, c.requires.single_run.samples))))
-    (λ more. StopsAt-misplaced (operation_meaning carried.operation) (number_in carried.operation carried.counter.tally) o at list input b are low l c.requires.single_run c.claim.new.ledger _ c.claim.ensures tally more c.args.fault (c.requires.misplaced are)))
+    (λ more. StopsAt-misplaced (operation_meaning carried.operation) (number_in carried.operation carried.counter.tally) o at list input b are low l c.requires.single_run c.count_allowed.new.ledger _ c.count_allowed.ensures tally more c.args.fault (c.requires.misplaced are)))

@@ -27,7 +27,7 @@ stopped g c = record { operation = c.match-self-2.self-inside.1.0.0; tracks = So
 
 takes : (g : Over) (c : After-go_to g) → let n = length c.args.complete.now.boxes.moof.now + c.args.complete.now.boxes.mdat.size in
     (0 < n) × (n ≤ length c.args.input.now)
-    × GoesTo (borrowed g.W.Sink.contents g.W.Sink.has_failed c.args.w.now c.match-self-2.w c.args.out.now c.match-self-2.out c.args.ledger.now c.claim.new.ledger) c.self.inside.carried (after g c)
+    × GoesTo (borrowed g.W.Sink.contents g.W.Sink.has_failed c.args.w.now c.match-self-2.w c.args.out.now c.match-self-2.out c.args.ledger.now c.count_allowed.new.ledger) c.self.inside.carried (after g c)
     (at_state c.self.inside.carried (states.Header c.args.at)) (take n c.args.input.now) (states.Header (c.args.at + n))
 takes g c =
     let carried = c.self.inside.carried in
@@ -52,7 +52,7 @@ takes g c =
             let effects = w.list_run-put.ensures in
             let put = rw (sym w.put-is ∙ c.in-Ok.is) at (effects.puts is.boxes.mdat.header is.boxes.mdat.sized) in
             let there : at + length f.boxes.moof.now + f.boxes.mdat.size ≡ at + (length f.boxes.moof.now + f.boxes.mdat.size) = omega arith in
-            rw (w.self-inside-is, w.out-is, w.w-is, c.in-Some.is, w.in-List.is, found.boxes.empty, c.settle.ensures.tracks) (record { step = record { goes = GoesOn-it at list input f.boxes f.run.now is w.in-List.command 1 o claim (g.W.Sink.contents w.list_run-put.new.w) w.list_run-put.new.out c.claim.new.ledger w.list_run-put.new.counter.tally c.claim.ensures (effects.tally is.boxes.mdat.header) put.passes; unfailed = put.unfailed; claim = rw c.claim.ensures (omega (arith, claim, len)) }; operation = refl; state = (no_head [] refl, omega (arith, fit.near)); counted = subst (λ k. IsCounted (operations.List w.in-List.command) w.list_run-put.new.counter k 0 0) there effects.counted })
+            rw (w.self-inside-is, w.out-is, w.w-is, c.in-Some.is, w.in-List.is, found.boxes.empty, c.settle.ensures.tracks) (record { step = record { goes = GoesOn-it at list input f.boxes f.run.now is w.in-List.command 1 o claim (g.W.Sink.contents w.list_run-put.new.w) w.list_run-put.new.out c.count_allowed.new.ledger w.list_run-put.new.counter.tally c.count_allowed.ensures (effects.tally is.boxes.mdat.header) put.passes; unfailed = put.unfailed; claim = rw c.count_allowed.ensures (omega (arith, claim, len)) }; operation = refl; state = (no_head [] refl, omega (arith, fit.near)); counted = subst (λ k. IsCounted (operations.List w.in-List.command) w.list_run-put.new.counter k 0 0) there effects.counted })
         | in-Split w ↦
             let cut = w.in-Split.cut in
             let taken = rw w.in-Split.is at found.taken in
@@ -62,10 +62,10 @@ takes g c =
             let number = rw (sym w.put-is ∙ c.in-Ok.is) at effects.number in
             rw (w.self-inside-is, w.out-is, w.w-is, c.in-Some.is, w.in-Split.is, found.boxes.empty, c.settle.ensures.tracks) (record {
               step = record {
-                goes = GoesOn-recut_whole cut o at list input f.boxes f.run.now is taken.0 taken.1 claim (g.W.Sink.contents w.recut_run-put.new.w) w.recut_run-put.new.out c.claim.new.ledger t c.claim.ensures
+                goes = GoesOn-recut_whole cut o at list input f.boxes f.run.now is taken.0 taken.1 claim (g.W.Sink.contents w.recut_run-put.new.w) w.recut_run-put.new.out c.count_allowed.new.ledger t c.count_allowed.ensures
                     (ap (λ k. k.samples) effects.tally) (ap (λ k. k.media_bytes) effects.tally) (ap (λ k. k.inspected) effects.tally) number put.passes;
                 unfailed = put.unfailed;
-                claim = rw c.claim.ensures (omega (arith, claim, len));
+                claim = rw c.count_allowed.ensures (omega (arith, claim, len));
               };
               operation = refl;
               state = (no_head [] refl, omega (arith, fit.near));
@@ -77,7 +77,7 @@ takes g c =
     )
 
 stops : (g : Over) (c : After-stop_at g) →
-    StopsIn (borrowed g.W.Sink.contents g.W.Sink.has_failed c.args.w.now c.match-self-2.w c.args.out.now c.match-self-2.out c.args.ledger.now c.claim.new.ledger) c.self.inside.carried (stopped g c)
+    StopsIn (borrowed g.W.Sink.contents g.W.Sink.has_failed c.args.w.now c.match-self-2.w c.args.out.now c.match-self-2.out c.args.ledger.now c.count_allowed.new.ledger) c.self.inside.carried (stopped g c)
     (at_state c.self.inside.carried (states.Header c.args.at)) c.args.input.now Write
 stops g c =
     let carried = c.self.inside.carried in
@@ -97,14 +97,14 @@ stops g c =
           let put = rw (sym w.put-is ∙ c.in-Err.is) at (effects.puts is.boxes.mdat.header is.boxes.mdat.sized) in
           rw (w.self-inside-is, w.out-is, w.w-is, c.in-Some.is, w.in-List.is, found.boxes.empty) (record {
             step = record {
-              stops = λ more. StopsAt-it at list input f.boxes f.run.now is w.in-List.command 1 o claim (g.W.Sink.contents w.list_run-put.new.w) w.list_run-put.new.out c.claim.new.ledger w.list_run-put.new.counter.tally c.claim.ensures (effects.tally is.boxes.mdat.header) more put.breaks;
+              stops = λ more. StopsAt-it at list input f.boxes f.run.now is w.in-List.command 1 o claim (g.W.Sink.contents w.list_run-put.new.w) w.list_run-put.new.out c.count_allowed.new.ledger w.list_run-put.new.counter.tally c.count_allowed.ensures (effects.tally is.boxes.mdat.header) more put.breaks;
               failed = λ _. put.failed;
               unfailed = λ other. absurd (other refl);
             };
             operation = refl;
             tracks = refl;
             empty = refl;
-            left = rw c.claim.ensures (omega (arith, claim));
+            left = rw c.count_allowed.ensures (omega (arith, claim));
             counted = counted_stop (operations.List w.in-List.command) w.list_run-put.new.counter (at + length f.boxes.moof.now + f.boxes.mdat.size) effects.counted;
           })
       | in-Split w ↦
@@ -118,7 +118,7 @@ stops g c =
           (ap (λ k. k.samples) effects.tally) (ap (λ k. k.media_bytes) effects.tally) (ap (λ k. k.inspected) effects.tally) effects.steps in
           rw (w.self-inside-is, w.out-is, w.w-is, c.in-Some.is, w.in-Split.is, found.boxes.empty) (record {
             step = record {
-              stops = λ more. StopsAt-recut_whole cut o at list input f.boxes f.run.now is taken.0 taken.1 claim (g.W.Sink.contents w.recut_run-put.new.w) w.recut_run-put.new.out c.claim.new.ledger t c.claim.ensures
+              stops = λ more. StopsAt-recut_whole cut o at list input f.boxes f.run.now is taken.0 taken.1 claim (g.W.Sink.contents w.recut_run-put.new.w) w.recut_run-put.new.out c.count_allowed.new.ledger t c.count_allowed.ensures
                   (ap (λ k. k.samples) effects.tally) (ap (λ k. k.media_bytes) effects.tally) (ap (λ k. k.inspected) effects.tally) more effects.least effects.most put.breaks;
               failed = λ _. put.failed;
               unfailed = λ other. absurd (other refl);
@@ -126,7 +126,7 @@ stops g c =
             operation = refl;
             tracks = refl;
             empty = refl;
-            left = rw c.claim.ensures (omega (arith, claim));
+            left = rw c.count_allowed.ensures (omega (arith, claim));
             counted = counted_stop (operations.Split cut) w.recut_run-put.new.counter (at + (length f.boxes.moof.now + f.boxes.mdat.size)) counted;
           })
     ]
@@ -135,7 +135,7 @@ pub returns-in-Ok : goal.returns-in-Ok
 returns-in-Ok g c =
     let n = length c.args.complete.now.boxes.moof.now + c.args.complete.now.boxes.mdat.size in
     let state : c.self.inside.state ≡ states.Header c.args.at = ap (λ (p : Progress). p.state) c.self.view_is ∙ c.requires.found.boxes.state in
-    let l = borrowed g.W.Sink.contents g.W.Sink.has_failed c.args.w.now c.match-self-2.w c.args.out.now c.match-self-2.out c.args.ledger.now c.claim.new.ledger in
+    let l = borrowed g.W.Sink.contents g.W.Sink.has_failed c.args.w.now c.match-self-2.w c.args.out.now c.match-self-2.out c.args.ledger.now c.count_allowed.new.ledger in
     rw (← c.self.view_is, state, c.go_to.ensures)
     (fed l c.self.inside.carried (after g c) (states.Header c.args.at) (states.Header (c.args.at + n)) c.args.input.now n (takes g c))
 
