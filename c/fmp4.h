@@ -8,7 +8,7 @@
  *         struct fmp4_stream stream = {0};
  *         unsigned char input[65536], out[131072];
  *         size_t len, at, taken, given = 0;
- *         uint32_t answer = fmp4_split_open(&stream, 15, 0, 0, 2 << 20, 1 << 20);
+ *         uint32_t answer = fmp4_split_open(&stream, 15, 0, 0, 1 << 20, 1 << 18);
  *         if (answer != FMP4_OK) return answer;
  *         while (answer <= FMP4_FULL && (len = fread(input, 1, sizeof input, from)) > 0)
  *             for (at = 0; answer <= FMP4_FULL && (at < len || given == sizeof out); at += taken) {
@@ -179,11 +179,12 @@ enum fmp4_listing {
 /* Opens a stream that is cut into fragments of at most `samples` samples (1 to 1,000,000), and of at most `bytes`
  * bytes of media (0: any number; a larger sample is a fragment by itself). `limit`: the most bytes that it may take.
  * `room` of them are allocated at once for the output that waits, and what is left is for its boxes. A server asks for
- * 2 MiB, with a room of 1 MiB: real streams claim some 10 KiB for their boxes, and what is left for those of a hostile
- * one bounds how long a call may take (fmp4.3 has a table: with 64 MiB it may be seconds). A room of 1 MiB serves where
- * output is taken after each feed; with 8 MiB a feed takes 65,536 bytes at once, and what isn't used of them stays
- * untouched. What comes at once must fit what is free, or the stream ends with FMP4_NO_ROOM: a moov (most have less
- * than 64 KiB; 16 MiB are allowed); the head of a new fragment, 100 bytes and 16 a sample (108 where it has 4 GiB of
+ * 1 MiB, with a room of 256 KiB: real streams claim some 10 KiB for their boxes, and what is left for those of a
+ * hostile one bounds how long a call may take (fmp4.3 has a table: with 64 MiB it may be seconds). Such a room, or one
+ * of 64 KiB, serves where output is taken after each feed; with 8 MiB a feed takes 65,536 bytes at once, and what isn't
+ * used of them stays untouched. What comes at once must fit what is free, or the stream ends with FMP4_NO_ROOM: a moov
+ * (most have less than 64 KiB; one with a picture in it may have more than such a room, and 16 MiB are allowed); the
+ * head of a new fragment, 100 bytes and 16 a sample (108 where it has 4 GiB of
  * media); an index, up to 786,460 bytes, with the head after it; and the heads of all samples without bytes that follow
  * each other. A stream that was closed can be opened again.
  *   FMP4_OVER_LIMIT: room is more than limit; FMP4_NO_MEMORY; FMP4_IS_OPEN; FMP4_BAD_LAYOUT, _SAMPLES, _BYTES, _FLAGS,
@@ -220,9 +221,10 @@ FMP4_MUST_READ uint32_t fmp4_list_open_as(struct fmp4_stream *stream, uint32_t l
 
 /* Feeds the next `len` bytes of the stream, or the first *taken of them: go on with the rest. A cut takes at most a
  * 128th of what is free in the room at once (a 512th with an index), a byte at the least, and nothing (FMP4_FULL)
- * while more than half of the room is filled; so does a listing, a 512th where it is of samples. Where this answers
- * FMP4_OK, FMP4_FULL or FMP4_FAULT, all output that the bytes so far determine waits to be taken, but for what was
- * taken. *taken is 0 where it misuses the stream, and after a stop.
+ * while more than half of the room is filled; so does a listing, a 512th where it is of samples. Of a longer input it
+ * takes what ends with an mdat, if one ends within so many bytes: a fragment that is fed whole costs less. Where this
+ * answers FMP4_OK, FMP4_FULL or FMP4_FAULT, all output that the bytes so far determine waits to be taken, but for what
+ * was taken. *taken is 0 where it misuses the stream, and after a stop.
  *   FMP4_FULL; FMP4_FAULT, FMP4_NO_ROOM, FMP4_OVER_LIMIT, FMP4_NO_MEMORY; FMP4_NOT_OPEN, FMP4_CLOSED, FMP4_ENDED */
 FMP4_MUST_READ uint32_t fmp4_feed(struct fmp4_stream *FMP4_RESTRICT stream, const uint8_t *FMP4_RESTRICT input,
                                   size_t len, size_t *FMP4_RESTRICT taken);

@@ -1,6 +1,6 @@
 /* recut SAMPLES [INPUT [BYTES [FLAGS [DURATION [LIMIT [ROOM]]]]]]: recuts standard input, INPUT bytes at a time, as fmp4
- * split does; 0 is what isn't asked for. The stream takes LIMIT bytes, 2 MiB if none is given, ROOM of them, 1 MiB, for
- * its output. cc recut.c -lfmp4 */
+ * split does; 0 is what isn't asked for. The stream takes LIMIT bytes, 1 MiB if none is given, ROOM of them, 256 KiB,
+ * for its output. cc recut.c -lfmp4 */
 #include <fmp4.h>
 #include <stdio.h>
 #include <stdlib.h>
@@ -31,7 +31,7 @@ static void report_end(uint32_t answer, const struct fmp4_report *report) {
 }
 
 int main(int argc, char **argv) {
-    unsigned long long with[7] = {0, 65536, 0, 0, 0, 2 << 20, 1 << 20};
+    unsigned long long with[7] = {0, 65536, 0, 0, 0, 1 << 20, 1 << 18};
     if (argc < 2 || argc > 8) return fputs("recut SAMPLES [INPUT [BYTES [FLAGS [DURATION [LIMIT [ROOM]]]]]]\n", stderr), 64;
     for (int i = 1; i < argc; i++) with[i - 1] = strtoull(argv[i], NULL, 10);
     /* Reads, and the copies of media from one to the other, are faster where both begin on a page. */

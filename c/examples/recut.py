@@ -11,7 +11,7 @@ def drain():
 layout = 88 << 24 | ctypes.sizeof(Stream) << 16 | ctypes.sizeof(Report)
 samples, size, duration, flags = (int(it) for it in sys.argv[2:] + ["65536", "0", "0"][len(sys.argv) - 3:])
 cut, answer = Cut(samples=samples, duration_ms=duration, flags=flags), 0
-if lib.fmp4_cut_open_as(byref(stream), c_uint32(layout), byref(cut), c_uint64(2 << 20), c_size_t(1 << 20)): sys.exit(64)
+if lib.fmp4_cut_open_as(byref(stream), c_uint32(layout), byref(cut), c_uint64(1 << 20), c_size_t(1 << 18)): sys.exit(64)
 while answer < 2 and (input := sys.stdin.buffer.read(size)):
     while answer < 2 and input:
         answer = lib.fmp4_feed(byref(stream), input, c_size_t(len(input)), byref(n))

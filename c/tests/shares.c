@@ -1,5 +1,5 @@
-/* shares < crates/test_streams/stdin: how much of an input a feed takes in an empty room, by each cut and listing, and where
- * output goes to a buffer first; and that it answers FMP4_FULL where a byte more than half of the room waits and there is input, and not where just half of it does. */
+/* shares < crates/test_streams/stdin: how much of an input a feed takes in an empty room, by each cut and listing, where
+ * output goes to a buffer first, and up to which mdat; and that it answers FMP4_FULL where a byte more than half of the room waits and there is input, and not where just half of it does. */
 #include "tests.h"
 
 enum { CUT = 5, CUT_WITH_INDEX = 6 };
@@ -57,6 +57,40 @@ static void filled_buffers(void) {
     }
 }
 
+/* Appends the stream's fragment, of 96 and 23 bytes, with this base time. */
+static void append_fragment(struct bytes *to, unsigned char time) {
+    append(to, in.at + 364, 119);
+    to->at[to->len - 119 + 62] = time;
+}
+
+/* A room of 25,600 has a share of 200 bytes. A fragment is taken by itself before a box of 500 bytes, of which 200 are
+ * taken at once, and the last 100 before a fragment that would end after 219; one before another; one before a box of 12
+ * bytes, which goes with the next; and all that is left, as it is no more than 200. */
+static void whole_fragments(void) {
+    static const unsigned char free_box[500] = {0, 0, 1, 0xf4, 'f', 'r', 'e', 'e'}, small_box[12] = {0, 0, 0, 12, 'f', 'r', 'e', 'e'};
+    static const size_t wanted[] = {119, 200, 200, 100, 119, 119, 131, 119};
+    struct fmp4_stream stream = {0};
+    struct bytes input = {calloc(1, 1), 0, 1};
+    unsigned char out[2000];
+    size_t taken = 0, given = 0;
+    append_fragment(&input, 0);
+    append(&input, free_box, sizeof free_box);
+    append_fragment(&input, 12);
+    append_fragment(&input, 24);
+    append(&input, small_box, sizeof small_box);
+    append_fragment(&input, 36);
+    append_fragment(&input, 48);
+    WANT(open_for(&stream, CUT, 25600) == FMP4_OK);
+    for (size_t at = 0; at < 364; at += taken) WANT(fmp4_feed(&stream, in.at + at, 364 - at, &taken) == FMP4_OK && taken > 0);
+    WANT(fmp4_take(&stream, out, sizeof out, &given) == FMP4_OK && given == 364);
+    for (size_t i = 0, at = 0; i < sizeof wanted / sizeof *wanted; i++, at += taken) {
+        WANT(fmp4_feed(&stream, input.at + at, input.len - at, &taken) == FMP4_OK && taken == wanted[i]);
+        WANT(fmp4_take(&stream, out, sizeof out, &given) == FMP4_OK);
+    }
+    WANT(fmp4_close(&stream) == FMP4_OK);
+    free(input.at);
+}
+
 /* A stream that has a room twice the `waits` bytes that the first `len` of the input give, less `fewer`. */
 static void filled(uint32_t listing, size_t len, size_t waits, size_t fewer) {
     struct fmp4_stream stream = {0};
@@ -93,8 +127,9 @@ int main(void) {
     for (uint32_t listing = FMP4_SAMPLES; listing <= CUT_WITH_INDEX; listing++)
         if (listing != FMP4_RECORDS) empty_buffers(listing, listing == FMP4_SAMPLES || listing == CUT_WITH_INDEX ? 512 : 128);
     filled_buffers();
+    whole_fragments();
     half_filled();
-    puts("shares: what a feed takes of an input, and FMP4_FULL from half of the room and a byte on, by each cut and listing");
+    puts("shares: what a feed takes of an input, up to which mdat, and FMP4_FULL from half of the room and a byte on, by each cut and listing");
     free(in.at);
     return 0;
 }

@@ -5,4 +5,5 @@ pub mod TaskLemmas
 pub mod HoldLemmas
 pub mod Sendable
 pub mod OpenLemmas
+pub mod PortionLemmas
 pub mod RecordLemmas

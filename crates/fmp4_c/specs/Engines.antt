@@ -15,6 +15,7 @@ use Rattle.fmp4_c.specs.Answers.{Counted, answer_to, counted_of, fault_of, numbe
 use Rattle.fmp4_c.specs.PendingOutput.{PendingOutput, empty}
 use Rattle.fmp4_c.specs.declared.answer.Answer.{Answer}
 use Rattle.fmp4_c.specs.declared.answer.Answer.TheVariants.{Done, Full, Fault, NoRoom, OverLimit, NoMemory, NoRecord, NotOpen, Closed, IsOpen, Ended, BadSamples, BadBytes, BadFlags, BadRoom, BadLayout, BadListing}
+use Rattle.fmp4_c.specs.Portions.{left_before, portion_of}
 use Rattle.fmp4_c.specs.Tasks.{IsAfter, IsEnough, fragments_in, held_by, live, peak_of, reading_of, record_listing, shown_of, stop_of, sums_of, task_of, totals_of}
 use Rattle.fmp4_c.specs.declared.report.Report.{Report}
 use Rattle.fmp4_c.specs.declared.results.Feed.{Feed}
@@ -130,7 +131,7 @@ Fed task b given BadListing r = ⊥
 abbrev pub free_in : ℕ → Run → ℕ
 free_in n r = n - length r.waiting.bytes
 
--- how many bytes are taken at once where so many are free, counted as far as 64 bits go: a share of these, and one at the
+-- how many bytes are taken at once at most where so many are free, counted as far as 64 bits go: a share of these, and one at the
 -- least; any number where there is no share
 abbrev pub step_of : (share free : ℕ) → ℕ
 step_of share free = if eqb share 0 then 2 ^ 64 - 1 else max 1 (min free (2 ^ 64 - 1) / share)
@@ -139,7 +140,7 @@ step_of share free = if eqb share 0 then 2 ^ 64 - 1 else max 1 (min free (2 ^ 64
 -- to before the room: none while more than half of the room is filled, which it answers only where there is input
 pub record IsPortion (free : ℕ) (r : Run) (input : List ℕ) (taken : ℕ) (answer : Answer) : Type 0 where
   pub filled : r.waiting.room < 2 * length r.waiting.bytes → (taken ≡ 0) × ((input ≡ [] → ⊥) → answer ≡ Full)
-  pub share : 2 * length r.waiting.bytes ≤ r.waiting.room → taken ≡ min (length input) (step_of r.share (r.waiting.room - length r.waiting.bytes + free))
+  pub share : 2 * length r.waiting.bytes ≤ r.waiting.room → taken ≡ portion_of input (left_before r.feeding) (step_of r.share (r.waiting.room - length r.waiting.bytes + free))
   pub done : answer ≡ Done → taken ≡ 0 → input ≡ []
   pub full : answer ≡ Full → (taken ≡ 0) × (r.waiting.room < 2 * length r.waiting.bytes) × (input ≡ [] → ⊥)
 

@@ -1,5 +1,6 @@
 pub mod PendingOutput
 pub mod Tasks
+pub mod Portions
 pub mod Answers
 pub mod Engines
 pub mod Calls

@@ -8,6 +8,7 @@ ghost use Rattle.fmp4_c.specs.Answers.{answer_to, number_of};
 ghost use Rattle.fmp4_c.specs.Calls.{IsOpened};
 ghost use Rattle.fmp4_c.specs.Engines.{FeedClauses, FeedTakeClauses, Finished, Holds, IsReset, NextFragmentClauses, SkipClauses, TakeClauses};
 ghost use Rattle.fmp4_c.specs.Engines.{held_in, limited_to, report_of, step_of};
+ghost use Rattle.fmp4_c.specs.Portions.{left_before, portion_of};
 ghost use Rattle.fmp4_c.specs.Tasks.{record_listing, stop_of};
 ghost use Rattle.fmp4_c.specs.declared.answer.Answer as answers;
 ghost use Rattle.fmp4_c.specs.declared.task.Task.{Task};
@@ -17,6 +18,7 @@ use crate::ahead::{Passed, feed_ahead};
 use crate::answer::Answer;
 use crate::asked::Asked;
 use crate::output::Output;
+use crate::portion::portion_of;
 use crate::report::{Report, fault_in};
 use crate::results::{Feed, FeedTake, Front};
 use crate::task::Task;
@@ -88,29 +90,40 @@ impl Engine {
         }
     }
 
+    /// How many bytes of the body that comes are left, up to the next header.
+    fn left(&self) -> u64
+        ensures { result ≡ left_before self.now.feeding }
+    {
+        match &self.feeder {
+            Some(feeder) => feeder.left(),
+            None => 0,
+        }
+    }
+
     /// How many bytes of the input are taken, with so many free beside the room: none unless half of the room is free.
-    fn portion(&self, input: usize, free: usize) -> usize
+    fn portion(&self, input: &[u8], free: usize) -> usize
         ensures filled { self.now.waiting.room < 2 * length self.now.waiting.bytes → result ≡ 0 }
         ensures share { 2 * length self.now.waiting.bytes ≤ self.now.waiting.room →
-            result ≡ min input
+            result ≡ portion_of input.now (left_before self.now.feeding)
             (step_of self.now.share (self.now.waiting.room - length self.now.waiting.bytes + free)) }
-        ensures some { 2 * length self.now.waiting.bytes ≤ self.now.waiting.room → 0 < input →
+        ensures some { 2 * length self.now.waiting.bytes ≤ self.now.waiting.room → 0 < length input.now →
             0 < result }
-        ensures none { result ≡ 0 → 0 < input →
+        ensures none { result ≡ 0 → 0 < length input.now →
             self.now.waiting.room < 2 * length self.now.waiting.bytes }
-        ensures within { result ≤ input }
+        ensures within { result ≤ length input.now }
     {
         if self.out.len() > self.out.free() {
             return 0;
         }
-        input.min(step_by(self.share, self.out.free().saturating_add(free)))
+        let most = step_by(self.share, self.out.free().saturating_add(free));
+        portion_of(input, self.left(), most)
     }
 
     /// Feeds the input of the stream, or the front of one. After a stop it returns the same, and takes nothing.
     pub fn feed(&mut self, input: &[u8]) -> Feed
         ensures { FeedClauses self.old input.now result self.new }
     {
-        let taken = self.portion(input.len(), 0);
+        let taken = self.portion(input, 0);
         match &mut self.feeder {
             Some(feeder) => {
                 if let Some(stop) = feeder.stop() {
@@ -156,7 +169,7 @@ impl Engine {
         }
         let free = buffer.len().saturating_sub(self.out.len());
         let first = self.out.take(buffer);
-        let portion = self.portion(input.len(), free);
+        let portion = self.portion(input, free);
         let Some(feeder) = &mut self.feeder else {
             unreachable!();
         };

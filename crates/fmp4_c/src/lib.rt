@@ -8,13 +8,13 @@
 //! - [`stream`]: what C keeps, with [`handle`]: the pointer in it, and [`engine`]: what that points to, whose calls
 //!   say what they did by [`results`];
 //! - [`task`]: what is done with a stream, and [`task_feeder`]: what takes it for that;
-//! - [`output`]: what waits to be taken, and [`ahead`]: output that doesn't;
+//! - [`output`]: what waits to be taken, and [`ahead`]: output that doesn't; [`portion`]: how much of an input is taken;
 //! - [`laws`]: what the definitions say of some numbers.
 //!
 //! The definitions: `specs/Engines.antt` (what an engine is after the bytes that it was fed, and what its calls do),
 //! `specs/Tasks.antt` (the same of what takes the bytes, for each task), `specs/Calls.antt` (the same of what C keeps,
-//! and what C asks for), `specs/Answers.antt` (numbers and reports), `specs/PendingOutput.antt` (what waits) and
-//! `specs/Handles.antt` (what a handle owns).
+//! and what C asks for), `specs/Answers.antt` (numbers and reports), `specs/PendingOutput.antt` (what waits),
+//! `specs/Portions.antt` (how much of an input is taken) and `specs/Handles.antt` (what a handle owns).
 #![tactic(auto)]
 
 mod ahead;
@@ -29,6 +29,7 @@ pub mod laws;
 mod names;
 mod opening;
 mod output;
+mod portion;
 mod report;
 mod request;
 mod results;

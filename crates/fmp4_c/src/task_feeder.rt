@@ -6,6 +6,7 @@ ghost use Rattle.mp4_ledger.specs.Memory.{given_back};
 ghost use Rattle.mp4_machine.specs.Ends.{sent};
 ghost use Rattle.mp4_machine.specs.Fed.{borrowed};
 ghost use Rattle.mp4_machine.specs.declared.stop.Stop.{Stop};
+ghost use Rattle.fmp4_c.specs.Portions.{left_of};
 ghost use Rattle.fmp4_c.specs.Tasks.{Feeds, Finishes, IsAfter, begun_of, fragments_in, held_by};
 ghost use Rattle.fmp4_c.specs.Tasks.{stop_of, task_of, totals_of};
 
@@ -45,6 +46,17 @@ impl TaskFeeder {
         match self {
             TaskFeeder::Fragments(feeder) => feeder.stop(),
             TaskFeeder::Boxes(feeder) => feeder.stop(),
+        }
+    }
+
+    /// How many bytes of the body that comes are left, up to the next header: 0 where a header comes, or a box that is
+    /// held, and in a listing of boxes.
+    pub(crate) fn left(&self) -> u64
+        ensures { result ≡ left_of self.now }
+    {
+        match self {
+            TaskFeeder::Fragments(feeder) => feeder.left(),
+            TaskFeeder::Boxes(_) => 0,
         }
     }
 

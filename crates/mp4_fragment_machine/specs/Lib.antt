@@ -1,3 +1,4 @@
+pub mod NextHeaders
 pub mod Places
 pub mod States
 pub mod Implementation

@@ -6,6 +6,7 @@ ghost use Rattle.mp4_machine.specs.Ends.{sent};
 ghost use Rattle.mp4_machine.specs.Inputs.{Takes, change};
 ghost use Rattle.mp4_machine.specs.declared.body.Body.{Body};
 ghost use Rattle.mp4_recut.specs.declared.operation.Operation.{Operation};
+ghost use Rattle.mp4_fragment_machine.specs.NextHeaders.{left_in};
 ghost use Rattle.mp4_fragment_machine.specs.Places.{claim_of};
 ghost use Rattle.mp4_fragment_machine.specs.States.{begun, continuation_in, listed_by, place_in, reads_of, stopped};
 ghost use Rattle.mp4_fragment_machine.specs.Implementation.Feeds.{Feeds};
@@ -104,6 +105,19 @@ impl FragmentMachine {
         ensures few { result ≤ reads_of self.now.operation * self.now.counter.tally.inspected }
     {
         self.carried.counter.steps.rows
+    }
+
+    /// How many bytes of the body that comes are left, up to the next header: 0 where a header comes, or a box that is
+    /// held.
+    pub fn left(&self) -> u64
+        ensures { result ≡ left_in self.now.state }
+    {
+        match &self.state {
+            State::Body(body, _) => body.left,
+            State::Copied(body) => body.left,
+            State::Media(recutting) => recutting.body.left,
+            State::Header { at: _ } | State::Buffering(_) | State::MdatHeader(_) => 0,
+        }
     }
 
     /// Takes bytes of an mdat that is recut from the front of the input. Returns how many.

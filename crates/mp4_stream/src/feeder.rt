@@ -2,6 +2,7 @@
 
 ghost use Rattle.std.specs.Prelude.{◌≡◌, ℕ, List, ◌+◌, ◌*◌, ◌≤◌, [], None, Some, Err, Ok};
 ghost use Rattle.std.specs.Prelude.{IfErr, IfOk, OnOk, OnErr, IsErrOf, true};
+ghost use Rattle.mp4_fragment_machine.specs.NextHeaders.{left_in};
 ghost use Rattle.mp4_fragment_machine.specs.States.{begun, listed_by, reads_of};
 ghost use Rattle.mp4_ledger.specs.Memory.{given_back};
 ghost use Rattle.mp4_recut.specs.declared.operation.Operation.TheVariants.{Split};
@@ -71,6 +72,14 @@ impl Feeder {
         ensures { result ≡ self.now.stop }
     {
         self.fed.stop()
+    }
+
+    /// How many bytes of the body that comes are left, up to the next header: 0 where a header comes, or a box that is
+    /// held.
+    pub fn left(&self) -> u64
+        ensures { result ≡ left_in self.now.machine.state }
+    {
+        self.fed.machine().left()
     }
 
     /// What it has counted so far, and the most bytes that it had claimed at once, whatever else its ledger serves.
