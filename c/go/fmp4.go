@@ -44,6 +44,9 @@ const (
 // Output is gathered in so many bytes.
 const outBytes = 16384
 
+// After so many reads in a row that give nothing, a reader is given up.
+const mostEmpty = 100
+
 // Cut says how a stream is cut: into fragments of at most Samples samples (0 with DurationMS: 1,000,000), Bytes bytes of
 // media and DurationMS milliseconds (0: any number). Limit is the most bytes that the stream may take, Room of them for
 // the output; 0 is 2 MiB and 1 MiB.
@@ -210,8 +213,12 @@ func NewCheck(limit uint64) (*Writer, error) {
 	return w, nil
 }
 
-// Buffer has output gathered in a buffer of the caller's, before the first Write.
-func (w *Writer) Buffer(out []byte) { w.out = out }
+// Buffer has output gathered in a buffer of the caller's, before the first Write. One of no bytes is passed over.
+func (w *Writer) Buffer(out []byte) {
+	if len(out) > 0 {
+		w.out = out
+	}
+}
 
 // hand writes output below, if there is some. An error stays.
 func (w *Writer) hand(out []byte) error {
@@ -341,6 +348,7 @@ type Reader struct {
 	from  io.Reader
 	input []byte
 	rest  []byte
+	empty int // reads in a row that gave nothing
 	ended bool
 	err_  error
 }
@@ -355,7 +363,8 @@ func NewReader(from io.Reader, cut Cut) (*Reader, error) {
 }
 
 // Read gives output, as soon as the bytes that were read determine some. At the end the error is io.EOF only where the
-// stream breaks no rule, else a *Fault, with all output before it given.
+// stream breaks no rule, else a *Fault, with all output before it given. A reader that gives nothing and no error a hundred
+// times in a row is given up with io.ErrNoProgress, as bufio does.
 func (r *Reader) Read(p []byte) (int, error) {
 	if len(p) == 0 {
 		return 0, nil
@@ -385,8 +394,15 @@ func (r *Reader) Read(p []byte) (int, error) {
 func (r *Reader) more() {
 	n, err := r.from.Read(r.input)
 	r.rest = r.input[:n]
-	if n > 0 || err == nil {
+	if n > 0 {
+		r.empty = 0
 		return
+	}
+	if err == nil {
+		if r.empty++; r.empty < mostEmpty {
+			return
+		}
+		err = io.ErrNoProgress
 	}
 	r.ended, r.err_ = true, err
 	if errors.Is(err, io.EOF) {

@@ -97,6 +97,73 @@ func TestReader(t *testing.T) {
 }
 
 // By 100 ms, as c/tests/all_tests has the program cut it.
+// silent is a reader that gives nothing from some byte on.
+type silent struct{ io.Reader }
+
+func (s silent) Read(p []byte) (int, error) {
+	n, err := s.Reader.Read(p)
+	if err == io.EOF {
+		err = nil
+	}
+	return n, err
+}
+
+// A reader that gives nothing for good is given up, and the output of what it gave was read; one that gives nothing now and
+// then isn't.
+func TestSilentReader(t *testing.T) {
+	stream, want := given(t)
+	for _, length := range []int{0, 100, len(stream) / 2} {
+		r, err := NewReader(silent{bytes.NewReader(stream[:length])}, Cut{Samples: 2})
+		if err != nil {
+			t.Fatal(err)
+		}
+		out, err := io.ReadAll(r)
+		if err != io.ErrNoProgress || !bytes.HasPrefix(want, out) || length > 1000 && len(out) < 1000 {
+			t.Fatal(length, len(out), err)
+		}
+		r.Close()
+	}
+	r, err := NewReader(&halting{bytes.NewReader(stream), 0}, Cut{Samples: 2})
+	if err != nil {
+		t.Fatal(err)
+	}
+	if out, err := io.ReadAll(r); err != nil || !bytes.Equal(out, want) {
+		t.Fatal(len(out), err)
+	}
+	r.Close()
+}
+
+// halting gives nothing but each fiftieth time.
+type halting struct {
+	io.Reader
+	reads int
+}
+
+func (h *halting) Read(p []byte) (int, error) {
+	if h.reads++; h.reads%50 != 0 {
+		return 0, nil
+	}
+	return h.Reader.Read(p)
+}
+
+// A buffer of no bytes is passed over: with it no output could be taken.
+func TestEmptyBuffer(t *testing.T) {
+	stream, want := given(t)
+	var out bytes.Buffer
+	w, err := NewWriter(&out, Cut{Samples: 2, Room: 4096, Limit: 1 << 20})
+	if err != nil {
+		t.Fatal(err)
+	}
+	w.Buffer(nil)
+	w.Buffer([]byte{})
+	if _, err := w.Write(stream); err != nil {
+		t.Fatal(err)
+	}
+	if err := w.Close(); err != nil || !bytes.Equal(out.Bytes(), want) {
+		t.Fatal(out.Len(), err)
+	}
+}
+
 func TestDuration(t *testing.T) {
 	stream, want := givenAs(t, "FMP4_WANT_BY_TIME")
 	r, err := NewReader(bytes.NewReader(stream), Cut{DurationMS: 100, Flags: Keyframes})

@@ -91,6 +91,29 @@ static void whole_fragments(void) {
     free(input.at);
 }
 
+/* A room of 14,080 has a share of 110 bytes, 9 fewer than a fragment: these are taken before the next one, of which 110 are
+ * taken again. */
+static void parts_of_fragments(uint32_t listing) {
+    static const size_t wanted[] = {110, 9, 110, 9};
+    struct fmp4_stream stream = {0};
+    struct bytes input = {calloc(1, 1), 0, 1};
+    unsigned char out[2000];
+    size_t taken = 0, given = 0;
+    append_fragment(&input, 0);
+    append_fragment(&input, 12);
+    WANT(open_for(&stream, listing, 14080) == FMP4_OK);
+    for (size_t at = 0; at < 364; at += taken) {
+        WANT(fmp4_feed(&stream, in.at + at, 364 - at, &taken) == FMP4_OK && taken > 0);
+        WANT(fmp4_take(&stream, out, sizeof out, &given) == FMP4_OK && given < sizeof out);
+    }
+    for (size_t i = 0, at = 0; i < sizeof wanted / sizeof *wanted; i++, at += taken) {
+        WANT(fmp4_feed(&stream, input.at + at, input.len - at, &taken) == FMP4_OK && taken == wanted[i]);
+        WANT(fmp4_take(&stream, out, sizeof out, &given) == FMP4_OK && given < sizeof out);
+    }
+    WANT(fmp4_close(&stream) == FMP4_OK);
+    free(input.at);
+}
+
 /* A stream that has a room twice the `waits` bytes that the first `len` of the input give, less `fewer`. */
 static void filled(uint32_t listing, size_t len, size_t waits, size_t fewer) {
     struct fmp4_stream stream = {0};
@@ -128,6 +151,8 @@ int main(void) {
         if (listing != FMP4_RECORDS) empty_buffers(listing, listing == FMP4_SAMPLES || listing == CUT_WITH_INDEX ? 512 : 128);
     filled_buffers();
     whole_fragments();
+    parts_of_fragments(CUT);
+    parts_of_fragments(FMP4_FRAGMENTS);
     half_filled();
     puts("shares: what a feed takes of an input, up to which mdat, and FMP4_FULL from half of the room and a byte on, by each cut and listing");
     free(in.at);
