@@ -61,7 +61,7 @@ class [[nodiscard]] stream {
     bool has_output_ = false, lost_ = false;
 
     void reserve() {
-        if (out_ || !has_output_) return;
+        if (size_ || !has_output_) return;
         own_.resize(16384);
         out_ = own_.data();
         size_ = own_.size();
@@ -92,7 +92,7 @@ class [[nodiscard]] stream {
     }
     ~stream() { fmp4_close(&stream_); }
 
-    // Has output gathered in a buffer of the caller's, of at least a byte, from the next feed on.
+    // Has output gathered in a buffer of the caller's from the next feed on; in none of no bytes.
     void buffer(std::uint8_t *out, std::size_t size) {
         out_ = out;
         size_ = size;

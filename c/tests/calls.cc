@@ -29,6 +29,8 @@ static void listed() {
     WANT(stream.list(static_cast<fmp4_listing>(5), 1 << 20, 4096) == FMP4_BAD_LISTING && stream.list(FMP4_FRAGMENTS, 4096, 4097) == FMP4_OVER_LIMIT);
     WANT(stream.list(FMP4_FRAGMENTS, 1 << 20, 4096) == FMP4_OK && stream.list(FMP4_FRAGMENTS, 1 << 20, 4096) == FMP4_IS_OPEN);
     gives(stream, lines);
+    std::uint8_t no_buffer = 0;
+    stream.buffer(&no_buffer, 0);
     gives(stream, lines);
     fmp4_fragment none{};
     WANT(stream.next(none) == FMP4_BAD_LISTING && stream.close() == FMP4_OK && stream.next(none) == FMP4_CLOSED);
