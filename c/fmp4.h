@@ -221,10 +221,10 @@ FMP4_MUST_READ uint32_t fmp4_list_open_as(struct fmp4_stream *stream, uint32_t l
 
 /* Feeds the next `len` bytes of the stream, or the first *taken of them: go on with the rest. A cut takes at most a
  * 128th of what is free in the room at once (a 512th with an index), a byte at the least, and nothing (FMP4_FULL)
- * while more than half of the room is filled; so does a listing, a 512th where it is of samples. Of a longer input it
- * takes what ends with an mdat, if one ends within so many bytes: a fragment that is fed whole costs less. Where this
- * answers FMP4_OK, FMP4_FULL or FMP4_FAULT, all output that the bytes so far determine waits to be taken, but for what
- * was taken. *taken is 0 where it misuses the stream, and after a stop.
+ * while more than half of the room is filled; so does a listing, a 512th where it is of samples, and a 32nd where it is
+ * of records. Of a longer input it takes what ends with an mdat, if one ends within so many bytes: a fragment that is
+ * fed whole costs less. Where this answers FMP4_OK, FMP4_FULL or FMP4_FAULT, all output that the bytes so far determine
+ * waits to be taken, but for what was taken. *taken is 0 where it misuses the stream, and after a stop.
  *   FMP4_FULL; FMP4_FAULT, FMP4_NO_ROOM, FMP4_OVER_LIMIT, FMP4_NO_MEMORY; FMP4_NOT_OPEN, FMP4_CLOSED, FMP4_ENDED */
 FMP4_MUST_READ uint32_t fmp4_feed(struct fmp4_stream *FMP4_RESTRICT stream, const uint8_t *FMP4_RESTRICT input,
                                   size_t len, size_t *FMP4_RESTRICT taken);

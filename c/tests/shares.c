@@ -143,7 +143,7 @@ int main(void) {
     WANT(in.len == 483);
     empty_rooms(FMP4_SAMPLES, 512);
     empty_rooms(FMP4_FRAGMENTS, 128);
-    empty_rooms(FMP4_RECORDS, 128);
+    empty_rooms(FMP4_RECORDS, 32);
     empty_rooms(FMP4_BOXES, 128);
     empty_rooms(CUT, 128);
     empty_rooms(CUT_WITH_INDEX, 512);

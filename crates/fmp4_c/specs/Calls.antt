@@ -111,12 +111,13 @@ listing_number (tasks.Fragments (operations.List Records)) = 3
 listing_number (tasks.Fragments (operations.Split cut)) = 0
 listing_number tasks.Boxes = 4
 
--- which share of the free room a feed takes of the input: a byte can be a sample, which has a line
+-- which share of the free room a feed takes of the input: a byte can be a sample, which has a line; a record is of 24 bytes at
+-- the least
 abbrev pub share_of_listing : Task → ℕ
 share_of_listing (tasks.Fragments (operations.List Check)) = 0
 share_of_listing (tasks.Fragments (operations.List Samples)) = 512
 share_of_listing (tasks.Fragments (operations.List Fragments)) = 128
-share_of_listing (tasks.Fragments (operations.List Records)) = 128
+share_of_listing (tasks.Fragments (operations.List Records)) = 32
 share_of_listing (tasks.Fragments (operations.Split cut)) = 128
 share_of_listing tasks.Boxes = 128
 

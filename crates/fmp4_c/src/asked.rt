@@ -18,6 +18,9 @@ const SHARE: usize = 128;
 /// samples, since a byte may be a sample, whose line has up to 256.
 const SHARE_WITH_INDEX: usize = 512;
 
+/// And of what is listed by records a 32nd: a record of 88 bytes is of a traf, which has 24 at the least.
+const SHARE_OF_RECORDS: usize = 32;
+
 /// What a stream is opened for.
 #[derive(Clone, Copy)]
 pub struct Asked {
@@ -137,6 +140,7 @@ fn share_of_listing(task: Task) -> usize
     match task {
         Task::Fragments(Operation::List(Command::Check)) => 0,
         Task::Fragments(Operation::List(Command::Samples)) => SHARE_WITH_INDEX,
+        Task::Fragments(Operation::List(Command::Records)) => SHARE_OF_RECORDS,
         _ => SHARE,
     }
 }
