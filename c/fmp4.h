@@ -184,9 +184,9 @@ enum fmp4_listing {
  * of 64 KiB, serves where output is taken after each feed; with 8 MiB a feed takes 65,536 bytes at once, and what isn't
  * used of them stays untouched. What comes at once must fit what is free, or the stream ends with FMP4_NO_ROOM: a moov
  * (most have less than 64 KiB; one with a picture in it may have more than such a room, and 16 MiB are allowed); the
- * head of a new fragment, 100 bytes and 16 a sample (108 where it has 4 GiB of
- * media); an index, up to 786,460 bytes, with the head after it; and the heads of all samples without bytes that follow
- * each other. A stream that was closed can be opened again.
+ * head of a new fragment, 100 bytes and 16 a sample (108 where it has 4 GiB of media); an index, up to 786,460 bytes,
+ * with the head after it; and the heads of all samples without bytes that follow each other. A stream that was closed
+ * can be opened again.
  *   FMP4_OVER_LIMIT: room is more than limit; FMP4_NO_MEMORY; FMP4_IS_OPEN; FMP4_BAD_LAYOUT, _SAMPLES, _BYTES, _FLAGS,
  *   _ROOM */
 FMP4_MUST_READ static inline uint32_t fmp4_split_open(struct fmp4_stream *stream, uint32_t samples, uint64_t bytes,
