@@ -8,15 +8,15 @@ use Rattle.mp4_traf.specs.Runs.{moof_at}
 use Rattle.mp4_pieces.specs.declared.cut.Cut.{Cut}
 use Rattle.mp4_grammar.specs.Contexts.{Context, context}
 use Rattle.mp4_grammar.specs.Joined.{AreSound, IsSound, Item, Movie, MovieFragment, OneBox, PassedOver, context_after, context_after_all, fragment_in, joined}
-use Rattle.mp4_recut_laws.specs.PieceItems.{without_ends}
+use Rattle.mp4_recut_laws.specs.EachFragment.{EachFragment}
+use Rattle.mp4_recut_laws.specs.PieceItems.{IsPieceHere, without_ends}
 use Rattle.mp4_recut_laws.specs.Premises.{CanAllBeRecut, CanBeRecut, RecutAgrees, SameButEnds}
-use Rattle.mp4_recut_laws.specs.PieceLines.{EachHasOneLine}
 use Rattle.mp4_recut_laws.specs.RecutItems.{item_recut, items_recut, copied_items, without_index}
 use Rattle.mp4_recut_laws.specs.MediaSamples.{MediaSample, item_samples, items_samples}
 use Rattle.mp4_recut.specs.Splitting.{is_dropped, splitting}
 use Rattle.mp4_recut.specs.Texts.{box_text, item_text, items_text}
 use Rattle.mp4_recut_laws.proofs.FragmentLemmas.{fragment_recut, fragment_count, fragment_runs}
-use Rattle.mp4_recut_laws.proofs.PieceListLemmas.{lines_join}
+use Rattle.mp4_recut_laws.proofs.PieceListLemmas.{pieces_join}
 use Rattle.mp4_recut_laws.proofs.TextLemmas.{joined_append, out_is, runs_joined}
 use Rattle.mp4_recut_laws.proofs.TrackLemmas.{ends_settled}
 
@@ -27,7 +27,7 @@ pub record ItemAgrees (cut : Cut) (c d : Context) (i : Item) (now : List Item) :
   pub sound : AreSound (splitting (without_index cut)) d now
   pub text : items_text (without_index cut) d now ≡ item_text (without_index cut) c i
   pub same : items_samples (without_index cut) d now ≡ item_samples c i
-  pub lines : EachHasOneLine (without_index cut) d now
+  pub pieces : EachFragment (IsPieceHere (without_index cut)) (without_index cut) d now
   pub same_tracks : SameButEnds (context_after (splitting cut) c i) (context_after_all (splitting (without_index cut)) d now)
   pub join : joined now ≡ item_text cut c i
 
@@ -36,12 +36,12 @@ none_back None e = refl
 none_back (Some ts) e = absurd cc
 
 passed : (cut : Cut) (c d : Context) (b : OneBox) (t : Bool) → is_dropped b.header.kind.0 ≡ t → SameButEnds c d → IsSound (splitting cut) c (PassedOver b) → ItemAgrees cut c d (PassedOver b) (copied_items t b)
-passed cut c d b true e a s = record { sound = tt; text = ap (λ (t : Bool). box_text t b.bytes) (sym e); same = refl; lines = tt; same_tracks = record { number = a.number; tracks = a.tracks }; join = ap (λ (t : Bool). box_text t b.bytes) (sym e) }
+passed cut c d b true e a s = record { sound = tt; text = ap (λ (t : Bool). box_text t b.bytes) (sym e); same = refl; pieces = tt; same_tracks = record { number = a.number; tracks = a.tracks }; join = ap (λ (t : Bool). box_text t b.bytes) (sym e) }
 passed cut c d b false e a s = record {
   sound = (s, tt);
   text = append-nil (box_text (is_dropped b.header.kind.0) b.bytes);
   same = refl;
-  lines = (tt, tt);
+  pieces = (tt, tt);
   same_tracks = record { number = a.number; tracks = a.tracks };
   join = append-nil b.bytes ∙ ap (λ (t : Bool). box_text t b.bytes) (sym e);
 }
@@ -51,7 +51,7 @@ movie cut c d b a s fine = record {
   sound = ((record { one = s.0.one; none = none_back d.tracks (a.tracks ∙ ap (option_map without_ends) s.0.none); small = s.0.small }, (fine d.at).0), tt);
   text = append-nil b.bytes;
   same = refl;
-  lines = (tt, tt);
+  pieces = (tt, tt);
   same_tracks = record { number = a.number; tracks = ap (λ (ts : List Track). Some ts) (fine d.at).1 };
   join = append-nil b.bytes;
 }
@@ -81,7 +81,7 @@ fragment_by cut at number (Some tracks) to now (Some us) moof mdat n e s fine =
       sound = again.sound;
       text = again.text ∙ out_is cut moof.bytes f.payload.start payload tracks tracks number (taken_runs h tracks) given;
       same = again.same;
-      lines = again.lines;
+      pieces = again.pieces;
       same_tracks = record {
         number = ap (λ (x : Context). x.number) again.after ∙ omega (arith, count);
         tracks = ap (λ (x : Context). option_map without_ends x.tracks) again.after ∙ ap (λ (ts : List Track). Some ts) (again.same_tracks ∙ (some_same (without_ends us) (without_ends tracks) e ∙ sym (ends_settled tracks (moof_trafs h tracks))));
@@ -119,7 +119,7 @@ pub same_samples : (a b c d : List MediaSample) → a ≡ b → c ≡ d → a ++
 same_samples a b c d p q = ap (λ (x : List MediaSample). x ++ c) p ∙ ap (λ (y : List MediaSample). b ++ y) q
 
 pub items_agree : (cut : Cut) (c d : Context) (is : List Item) → SameButEnds c d → AreSound (splitting cut) c is → CanAllBeRecut cut c is → RecutAgrees cut c d is (items_recut cut c is)
-items_agree cut c d [] a s fine = record { sound = tt; text = refl; same = refl; lines = tt; same_tracks = a }
+items_agree cut c d [] a s fine = record { sound = tt; text = refl; same = refl; pieces = tt; same_tracks = a }
 items_agree cut c d (i ∷ is) a s fine =
     let now = item_recut cut c i in
     let more = items_recut cut (context_after (splitting cut) c i) is in
@@ -129,7 +129,7 @@ items_agree cut c d (i ∷ is) a s fine =
       sound = sound_join (without_index cut) d now more one.sound rest.sound;
       text = text_join (without_index cut) d now more ∙ same_bytes _ _ _ _ one.text rest.text;
       same = samples_join (without_index cut) d now more ∙ same_samples _ _ _ _ one.same rest.same;
-      lines = lines_join (without_index cut) d now more one.lines rest.lines;
+      pieces = pieces_join (without_index cut) d now more one.pieces rest.pieces;
       same_tracks = subst (λ (x : Context). SameButEnds (context_after_all (splitting cut) (context_after (splitting cut) c i) is) x) (sym (after_join (without_index cut) d now more)) rest.same_tracks;
     }
 

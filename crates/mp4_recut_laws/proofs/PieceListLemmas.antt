@@ -8,14 +8,13 @@ use Rattle.mp4_pieces.specs.declared.cut.Cut.{Cut}
 use Rattle.mp4_pieces.specs.Fitting.{cut_for, fits}
 use Rattle.mp4_grammar.specs.Contexts.{Context, context}
 use Rattle.mp4_grammar.specs.Joined.{AreSound, IsSound, Item, context_after, context_after_all, bytes_of, joined}
-use Rattle.mp4_recut_laws.specs.PieceItems.{IsOnePiece, PieceWithMedia, piece_item, piece_samples, pieces_items, without_ends}
-use Rattle.mp4_recut_laws.specs.PieceLines.{EachHasOneLine, HasOneLine}
+use Rattle.mp4_recut_laws.specs.EachFragment.{EachFragment, IfFragment}
+use Rattle.mp4_recut_laws.specs.PieceItems.{IsOnePiece, IsPieceHere, PieceWithMedia, piece_item, piece_samples, pieces_items, without_ends}
 use Rattle.mp4_recut_laws.specs.RecutItems.{AreRecutAnywhere, AreRecutHere}
 use Rattle.mp4_recut_laws.specs.MediaSamples.{MediaSample, item_samples, items_samples}
 use Rattle.mp4_recut.specs.Splitting.{splitting}
 use Rattle.mp4_recut.specs.Texts.{item_text, items_text}
 use Rattle.mp4_recut_laws.proofs.OnePieceLemmas.{one_recut, one_samples}
-use Rattle.mp4_recut_laws.proofs.PieceLineLemmas.{one_line}
 use Rattle.mp4_recut_laws.proofs.TrackLemmas.{ends_changed, can_still, still_timescale}
 
 pub still : (cut : Cut) (ts us : List Track) → without_ends us ≡ without_ends ts → (qs : List PieceWithMedia) → AllByRecursion (λ (q : PieceWithMedia). IsOnePiece cut ts q.written q.media) qs → AllByRecursion (λ (q : PieceWithMedia). IsOnePiece cut us q.written q.media) qs
@@ -46,9 +45,9 @@ same_context a b m n s p r = cc
 -- an item, and those after it
 pub cons_recut : (cut : Cut) (at number : ℕ) (tracks next : List Track) (i : Item) (is : List Item) (mine out : List ℕ) (one count total : ℕ) (its samples : List MediaSample) → total ≡ one + count
     → IsSound (splitting cut) (context at (Some tracks) number) i → item_text cut (context at (Some tracks) number) i ≡ mine → context_after (splitting cut) (context at (Some tracks) number) i ≡ context (at + length (bytes_of i)) (Some next) (number + one)
-    → without_ends next ≡ without_ends tracks → item_samples (context at (Some tracks) number) i ≡ its → HasOneLine (context at (Some tracks) number) i → AreRecutHere cut (at + length (bytes_of i)) (number + one) next is out count samples → AreRecutHere cut at number tracks (i ∷ is) (mine ++ out) total (its ++ samples)
+    → without_ends next ≡ without_ends tracks → item_samples (context at (Some tracks) number) i ≡ its → IfFragment (IsPieceHere cut) (context at (Some tracks) number) i → AreRecutHere cut (at + length (bytes_of i)) (number + one) next is out count samples → AreRecutHere cut at number tracks (i ∷ is) (mine ++ out) total (its ++ samples)
 unfolding make_context
-cons_recut cut at number tracks next i is mine out one count total its samples sum sound text after ends_same here line more =
+cons_recut cut at number tracks next i is mine out one count total its samples sum sound text after ends_same here piece more =
     record {
       sound = (sound, subst (λ (e : Context). AreSound (splitting cut) e is) (sym after) more.sound);
       text = join_bytes _ _ _ _ text (ap (λ (e : Context). items_text cut e is) after ∙ more.text);
@@ -56,16 +55,16 @@ cons_recut cut at number tracks next i is mine out one count total its samples s
       after = ap (λ (e : Context). context_after_all (splitting cut) e is) after ∙ (more.after ∙ same_context _ _ _ _ more.ended (omega (arith, length-append (bytes_of i) (joined is))) (omega (arith, sum)));
       same_tracks = more.same_tracks ∙ ends_same;
       same = join_samples _ _ _ _ here (ap (λ (e : Context). items_samples cut e is) after ∙ more.same);
-      lines = (line, subst (λ (e : Context). EachHasOneLine cut e is) (sym after) more.lines);
+      pieces = (piece, subst (λ (e : Context). EachFragment (IsPieceHere cut) cut e is) (sym after) more.pieces);
     }
 
 pub none_recut : (cut : Cut) (number : ℕ) (tracks : List Track) → AreRecutAnywhere cut number tracks [] [] 0 []
 unfolding make_context
-none_recut cut number tracks at us e = record { sound = tt; text = refl; ended = us; after = same_context _ _ _ _ us (omega arith) (omega arith); same_tracks = refl; same = refl; lines = tt }
+none_recut cut number tracks at us e = record { sound = tt; text = refl; ended = us; after = same_context _ _ _ _ us (omega arith) (omega arith); same_tracks = refl; same = refl; pieces = tt }
 
-pub lines_join : (cut : Cut) (c : Context) (xs ys : List Item) → EachHasOneLine cut c xs → EachHasOneLine cut (context_after_all (splitting cut) c xs) ys → EachHasOneLine cut c (xs ++ ys)
-lines_join cut c [] ys p q = q
-lines_join cut c (x ∷ xs) ys p q = (p.0, lines_join cut (context_after (splitting cut) c x) xs ys p.1 q)
+pub pieces_join : (cut : Cut) (c : Context) (xs ys : List Item) → EachFragment (IsPieceHere cut) cut c xs → EachFragment (IsPieceHere cut) cut (context_after_all (splitting cut) c xs) ys → EachFragment (IsPieceHere cut) cut c (xs ++ ys)
+pieces_join cut c [] ys p q = q
+pieces_join cut c (x ∷ xs) ys p q = (p.0, pieces_join cut (context_after (splitting cut) c x) xs ys p.1 q)
 
 -- some items, and those after them
 pub append_recut : (cut : Cut) (number : ℕ) (tracks : List Track) (xs ys : List Item) (out more : List ℕ) (m n : ℕ) (its samples : List MediaSample) → AreRecutAnywhere cut number tracks xs out m its → AreRecutAnywhere cut (number + m) tracks ys more n samples → AreRecutAnywhere cut number tracks (xs ++ ys) (out ++ more) (m + n) (its ++ samples)
@@ -80,7 +79,7 @@ append_recut cut number tracks xs ys out more m n its samples p q at us e =
       after = after_join cut _ xs ys ∙ (ap (λ (c : Context). context_after_all (splitting cut) c ys) a.after ∙ (b.after ∙ moved at (length (joined xs)) (length (joined ys)) (length (joined (xs ++ ys))) number m n b.ended (joined_length xs ys)));
       same_tracks = b.same_tracks ∙ a.same_tracks;
       same = samples_join cut _ xs ys ∙ join_samples _ _ _ _ a.same (ap (λ (c : Context). items_samples cut c ys) a.after ∙ b.same);
-      lines = lines_join cut _ xs ys a.lines (subst (λ (c : Context). EachHasOneLine cut c ys) (sym a.after) b.lines);
+      pieces = pieces_join cut _ xs ys a.pieces (subst (λ (c : Context). EachFragment (IsPieceHere cut) cut c ys) (sym a.after) b.pieces);
     }
   where
     sound_join : (cut : Cut) (c : Context) (xs ys : List Item) → AreSound (splitting cut) c xs → AreSound (splitting cut) (context_after_all (splitting cut) c xs) ys → AreSound (splitting cut) c (xs ++ ys)
@@ -117,7 +116,7 @@ pieces_own_recut cut number tracks (q ∷ qs) none room all at us e =
     let i = piece_item f number q.media in
     let one = one_recut cut at number us f q.media none (omega (arith, room)) mine.0 in
     cons_recut cut at number us next i (pieces_items (number + 1) qs) (bytes_of i) (joined (pieces_items (number + 1) qs)) 1 (length qs) (length (q ∷ qs)) (piece_samples q) (flat_map piece_samples qs) (omega arith)
-    one.sound one.text one.after same (one_samples cut at number us f q.media mine.0) (one_line cut at number us f q.media (omega (arith, room)) mine.0)
+    one.sound one.text one.after same (one_samples cut at number us f q.media mine.0) (record { known = refl; small = omega (arith, room); written = f; media = q.media; one = mine.0; item = refl })
     (pieces_own_recut cut (number + 1) tracks qs none (omega (arith, room)) all.1 (at + length (bytes_of i)) next (same ∙ e))
 
 pub recut_is : (cut : Cut) (number number' : ℕ) (tracks : List Track) (is : List Item) (out out' : List ℕ) (n n' : ℕ) (samples samples' : List MediaSample) → AreRecutAnywhere cut number tracks is out n samples → number ≡ number' → out ≡ out' → n ≡ n' → samples ≡ samples' → AreRecutAnywhere cut number' tracks is out' n' samples'

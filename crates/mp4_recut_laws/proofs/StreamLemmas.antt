@@ -18,9 +18,9 @@ use Rattle.mp4_grammar.specs.Meanings.{Meaning}
 use Rattle.mp4_grammar.specs.Rests.{Open, ends}
 use Rattle.mp4_grammar.proofs.JoinLemmas.{reads-items}
 use Rattle.mp4_grammar.proofs.RestLemmas.{rest-reads}
-use Rattle.mp4_recut_laws.specs.PieceItems.{without_ends}
+use Rattle.mp4_recut_laws.specs.EachFragment.{EachFragment}
+use Rattle.mp4_recut_laws.specs.PieceItems.{IsPieceHere, without_ends}
 use Rattle.mp4_recut_laws.specs.Premises.{SameButEnds}
-use Rattle.mp4_recut_laws.specs.PieceLines.{EachHasOneLine}
 use Rattle.mp4_recut_laws.specs.RecutItems.{items_recut, without_index}
 use Rattle.mp4_recut_laws.specs.MediaSamples.{MediaSample, items_samples}
 use Rattle.mp4_recut.specs.Splitting.{is_dropped, reading, splitting}
@@ -29,7 +29,7 @@ use Rattle.mp4_recut.specs.Texts.{box_text, items_text}
 use Rattle.mp4_recut_laws.proofs.PremiseLemmas.{all_can_be_recut, bytes_back, bytes_front, after_good}
 use Rattle.mp4_recut_laws.proofs.ItemLemmas.{items_joined, items_agree, samples_join, same_bytes, same_samples, some_same, sound_join, text_join, after_join}
 use Rattle.mp4_recut_laws.proofs.OpenFragmentLemmas.{open_recut, open_runs}
-use Rattle.mp4_recut_laws.proofs.PieceListLemmas.{lines_join}
+use Rattle.mp4_recut_laws.proofs.PieceListLemmas.{pieces_join}
 use Rattle.mp4_recut_laws.proofs.TextLemmas.{joined_append, out_is, runs_joined}
 
 pub after_at : (meaning : Meaning) (c : Context) (is : List Item) → (context_after_all meaning c is).at ≡ c.at + length (joined is)
@@ -44,7 +44,7 @@ record EndingAgrees (cut : Cut) (c d : Context) (e : Ending) : Type 0 where
   ending : IsSoundEnding (splitting (without_index cut)) (context_after_all (splitting (without_index cut)) d (ending_items cut c e)) (ending_recut e)
   text : items_text (without_index cut) d (ending_items cut c e) ++ ending_text (without_index cut) (context_after_all (splitting (without_index cut)) d (ending_items cut c e)) (ending_recut e) ≡ ending_text (without_index cut) c e
   same : items_samples (without_index cut) d (ending_items cut c e) ++ ending_samples (context_after_all (splitting (without_index cut)) d (ending_items cut c e)) (ending_recut e) ≡ ending_samples c e
-  lines : EachHasOneLine (without_index cut) d (ending_items cut c e)
+  pieces : EachFragment (IsPieceHere (without_index cut)) (without_index cut) d (ending_items cut c e)
   join : joined (ending_items cut c e) ++ ending_bytes (ending_recut e) ≡ ending_text cut c e
 
 open_lasts : (cut : Cut) (c d : Context) (h : Header) (header_bytes more : List ℕ) (t : Bool) → is_dropped h.kind.0 ≡ t → IsSoundEnding (splitting cut) c (OpenBox h header_bytes more)
@@ -74,15 +74,15 @@ fragment_lasts cut at number (Some tracks) to now (Some us) moof h header_bytes 
       ending = tt;
       text = append-nil _ ∙ (again.text ∙ out_is cut moof.bytes f.payload.start more tracks tracks number (taken_runs (moof_at moof.bytes at) tracks) given);
       same = append-nil _ ∙ again.same;
-      lines = again.lines;
+      pieces = again.pieces;
       join = append-nil _ ∙ runs_joined cut moof.bytes f.payload.start more tracks tracks number (taken_runs (moof_at moof.bytes at) tracks) given;
     })
 
 ending_agrees : (cut : Cut) (c d : Context) (e : Ending) → SameButEnds c d → IsSoundEnding (splitting cut) c e → IsBytes (ending_bytes e) → c.at + length (ending_bytes e) ≤ 2 ^ 62 → c.number ≤ 2 ^ 32 → AllByRecursion FitsTrack (tracks_in c) → EndingAgrees cut c d e
-ending_agrees cut c d NothingMore a s moof_bytes room low fit = record { sound = tt; ending = tt; text = refl; same = refl; lines = tt; join = refl }
+ending_agrees cut c d NothingMore a s moof_bytes room low fit = record { sound = tt; ending = tt; text = refl; same = refl; pieces = tt; join = refl }
 ending_agrees cut c d (OpenBox h header_bytes more) a s moof_bytes room low fit =
     let o = open_lasts cut c d h header_bytes more (is_dropped h.kind.0) refl s in
-    record { sound = tt; ending = o.0; text = o.1; same = o.2; lines = tt; join = o.3 }
+    record { sound = tt; ending = o.0; text = o.1; same = o.2; pieces = tt; join = o.3 }
 ending_agrees cut c d (OpenFragment moof h header_bytes more) a s moof_bytes room low fit =
     fragment_lasts cut c.at c.number c.tracks d.at d.number d.tracks moof h header_bytes more a.number a.tracks s (bytes_front moof.bytes (header_bytes ++ more) moof_bytes) (omega (arith, room, length-append moof.bytes (header_bytes ++ more), length-append header_bytes more)) low fit
 
@@ -94,7 +94,7 @@ pub record Laws (cut : Cut) (s : Stream) : Type 0 where
   pub ending : IsSoundEnding (splitting (without_index cut)) (ending_context (without_index cut) (recut cut s)) (recut cut s).ending
   pub text : stream_text (without_index cut) (recut cut s) ≡ stream_text (without_index cut) s
   pub same : stream_samples (without_index cut) (recut cut s) ≡ stream_samples cut s
-  pub lines : EachHasOneLine (without_index cut) first_context (recut cut s).items
+  pub pieces : EachFragment (IsPieceHere (without_index cut)) (without_index cut) first_context (recut cut s).items
 
 pub laws : (cut : Cut) (s : Stream) → IsSoundStream cut s → Laws cut s
 laws cut s is =
@@ -124,7 +124,7 @@ laws cut s is =
           ∙ (ap (λ (x : Context). (items_samples (without_index cut) first_context now ++ items_samples (without_index cut) d more) ++ ending_samples x (ending_recut s.ending)) there
           ∙ (append_assoc (items_samples (without_index cut) first_context now) (items_samples (without_index cut) d more) _
           ∙ same_samples _ _ _ _ survive.same last.same));
-      lines = lines_join (without_index cut) first_context now more survive.lines last.lines;
+      pieces = pieces_join (without_index cut) first_context now more survive.pieces last.pieces;
     }
 
 -- ---- it is read without a fault

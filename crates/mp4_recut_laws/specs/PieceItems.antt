@@ -1,6 +1,6 @@
 -- A piece of the recut text as an item of a stream that is read (ISO/IEC 14496-12, 8.8.4 and 8.1.1).
 -- It is the moof that is written for its samples, and the mdat with their media.
-use Rattle.std.specs.Prelude.{◌≡◌, ℕ, ◌+◌, ◌<◌, ◌≤◌, ◌^◌, List, [], ◌∷◌, ◌++◌, length, map, pos, true}
+use Rattle.std.specs.Prelude.{◌≡◌, ℕ, ◌+◌, ◌<◌, ◌≤◌, ◌^◌, List, [], ◌∷◌, ◌++◌, length, map, pos, Some, true}
 use Rattle.mp4_init.specs.declared.table.Track.{Track}
 use Rattle.mp4_traf.specs.declared.run.Run.{Run}
 use Rattle.mp4_traf.specs.Rows.{rows_of, sizes}
@@ -16,6 +16,7 @@ use Rattle.mp4_cut.specs.Moof.{WrittenFragment as Written}
 use Rattle.mp4_cut.specs.Reads.{CanBeRead, header_of}
 use Rattle.mp4_grammar.specs.Contexts.{Context}
 use Rattle.mp4_grammar.specs.Joined.{IsSound, Item, MovieFragment, OneBox, context_after, bytes_of}
+use Rattle.mp4_grammar.specs.Meanings.{Fragment}
 use Rattle.mp4_recut.specs.Splitting.{splitting}
 use Rattle.mp4_recut.specs.Texts.{item_text, media_of}
 use Rattle.mp4_recut_laws.specs.MediaSamples.{MediaSample, media_samples_from}
@@ -44,6 +45,15 @@ pub record IsOnePiece (cut : Cut) (tracks : List Track) (f : Written) (media : L
   pub fits : fits (cut_for can.track.timescale cut) f.rows ≡ true
   pub all : length media ≡ sizes f.rows
   pub small : length media ≤ 2 ^ 62
+
+-- the fragment is one piece of the cut: it has the number of this context, and its track is one of the tracks
+pub record IsPieceHere (cut : Cut) (c : Context) (i : Item) (f : Fragment) : Type 0 where
+  pub known : c.tracks ≡ Some f.tracks
+  pub small : c.number < 2 ^ 32
+  pub written : Written
+  pub media : List ℕ
+  pub one : IsOnePiece cut f.tracks written media
+  pub item : i ≡ piece_item written c.number media
 
 -- the item breaks no rule, its recut text is its own bytes, and the next item begins in this context
 pub record IsOwnRecut (cut : Cut) (c : Context) (i : Item) (next : Context) : Type 0 where

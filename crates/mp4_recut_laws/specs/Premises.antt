@@ -14,8 +14,8 @@ use Rattle.mp4_grammar.specs.Joined.{AreSound, Item, Movie, MovieFragment, Passe
 use Rattle.mp4_recut.specs.Splitting.{splitting}
 use Rattle.mp4_recut.specs.Texts.{items_text}
 use Rattle.mp4_recut_laws.specs.MediaSamples.{items_samples}
-use Rattle.mp4_recut_laws.specs.PieceItems.{LiesIn, without_ends}
-use Rattle.mp4_recut_laws.specs.PieceLines.{EachHasOneLine}
+use Rattle.mp4_recut_laws.specs.EachFragment.{EachFragment}
+use Rattle.mp4_recut_laws.specs.PieceItems.{IsPieceHere, LiesIn, without_ends}
 use Rattle.mp4_recut_laws.specs.RecutItems.{without_index}
 
 -- ---- premises
@@ -51,11 +51,11 @@ pub record SameButEnds (c d : Context) : Type 0 where
   pub number : d.number ≡ c.number
   pub tracks : option_map without_ends d.tracks ≡ option_map without_ends c.tracks
 
--- items and those of their recut text, each list in its context. The latter break no rule, and have a line a fragment.
+-- items and those of their recut text, each list in its context. The latter break no rule, and each of their fragments is one piece.
 -- Without an index they have the same recut text and the same samples
 pub record RecutAgrees (cut : Cut) (c d : Context) (is now : List Item) : Type 0 where
   pub sound : AreSound (splitting (without_index cut)) d now
   pub text : items_text (without_index cut) d now ≡ items_text (without_index cut) c is
   pub same : items_samples (without_index cut) d now ≡ items_samples cut c is
-  pub lines : EachHasOneLine (without_index cut) d now
+  pub pieces : EachFragment (IsPieceHere (without_index cut)) (without_index cut) d now
   pub same_tracks : SameButEnds (context_after_all (splitting cut) c is) (context_after_all (splitting (without_index cut)) d now)

@@ -14,8 +14,8 @@ use Rattle.mp4_grammar.specs.Meanings.{Fragment, runs_in}
 use Rattle.mp4_recut.specs.Splitting.{is_dropped, splitting, timescale_of}
 use Rattle.mp4_recut.specs.Texts.{items_text}
 use Rattle.mp4_recut_laws.specs.MediaSamples.{MediaSample, items_samples}
-use Rattle.mp4_recut_laws.specs.PieceItems.{piece_with_media, pieces_items, without_ends}
-use Rattle.mp4_recut_laws.specs.PieceLines.{EachHasOneLine}
+use Rattle.mp4_recut_laws.specs.EachFragment.{EachFragment}
+use Rattle.mp4_recut_laws.specs.PieceItems.{IsPieceHere, piece_with_media, pieces_items, without_ends}
 
 -- the same cut without an index
 abbrev pub without_index : Cut → Cut
@@ -69,7 +69,7 @@ items_recut cut c (i ∷ is) = item_recut cut c i ++ items_recut cut (context_af
 
 -- ---- the recut text of items
 
--- in this context the items break no rule, and each fragment among them is listed in one line. Their recut text is
+-- in this context the items break no rule, and each fragment among them is one piece of the cut. Their recut text is
 -- `out`, of `count` fragments, and these are their samples. After them only the times at which the tracks end differ
 pub record AreRecutHere (cut : Cut) (at number : ℕ) (tracks : List Track) (is : List Item) (out : List ℕ) (count : ℕ) (samples : List MediaSample) : Type 0 where
   pub sound : AreSound (splitting cut) (context at (Some tracks) number) is
@@ -78,7 +78,7 @@ pub record AreRecutHere (cut : Cut) (at number : ℕ) (tracks : List Track) (is 
   pub after : context_after_all (splitting cut) (context at (Some tracks) number) is ≡ context (at + length (joined is)) (Some ended) (number + count)
   pub same_tracks : without_ends ended ≡ without_ends tracks
   pub same : items_samples cut (context at (Some tracks) number) is ≡ samples
-  pub lines : EachHasOneLine cut (context at (Some tracks) number) is
+  pub pieces : EachFragment (IsPieceHere cut) cut (context at (Some tracks) number) is
 
 -- the same at each stream offset, and wherever the tracks ended before
 abbrev pub AreRecutAnywhere : Cut → ℕ → List Track → List Item → List ℕ → ℕ → List MediaSample → Type 0

@@ -6,12 +6,12 @@ use Rattle.mp4_frag.specs.Moofs.{IsRead}
 use Rattle.mp4_traf.specs.Runs.{moof_at}
 use Rattle.mp4_pieces.specs.declared.cut.Cut.{Cut}
 use Rattle.mp4_grammar.specs.Contexts.{Context, first_context}
-use Rattle.mp4_grammar.specs.FragmentLines.{fragment_lines}
 use Rattle.mp4_grammar.specs.Joined.{AreSound, IsGood, IsMoofHere, Item, OneBox, context_after_all, fragment_here, joined, tracks_in}
 use Rattle.mp4_grammar.specs.Meanings.{Meaning, needed_in}
 use Rattle.mp4_grammar.specs.Rests.{IsOpen}
+use Rattle.mp4_grammar.specs.declared.command.Command.{Command}
 use Rattle.mp4_grammar.specs.declared.kinds.Kind.TheVariants.{Mdat, Other}
-use Rattle.mp4_recut_laws.specs.PieceLines.{items_lines}
+use Rattle.mp4_recut_laws.specs.Listings.{fragment_listing, items_listing}
 use Rattle.mp4_recut_laws.specs.RecutItems.{fragment_items, items_recut}
 use Rattle.mp4_recut_laws.specs.MediaSamples.{MediaSample, items_samples, media_samples_in}
 use Rattle.mp4_recut.specs.Splitting.{is_dropped, splitting}
@@ -49,11 +49,11 @@ ending_samples c NothingMore = []
 ending_samples c (OpenBox h header_bytes more) = []
 ending_samples c (OpenFragment moof h header_bytes more) = media_samples_in (fragment_here c moof.bytes h) more
 
--- what is written of an ending where fragments are listed
-abbrev pub ending_lines : Context → Ending → List ℕ
-ending_lines c NothingMore = []
-ending_lines c (OpenBox h header_bytes more) = []
-ending_lines c (OpenFragment moof h header_bytes more) = fragment_lines (fragment_here c moof.bytes h)
+-- what a command writes of an ending
+abbrev pub ending_listing : Command → Context → Ending → List ℕ
+ending_listing command c NothingMore = []
+ending_listing command c (OpenBox h header_bytes more) = []
+ending_listing command c (OpenFragment moof h header_bytes more) = fragment_listing command (fragment_here c moof.bytes h)
 
 -- a stream as whole items and an ending
 pub record Stream : Type 0 where
@@ -89,9 +89,9 @@ stream_text cut s = items_text cut first_context s.items ++ ending_text cut (end
 abbrev pub stream_samples : Cut → Stream → List MediaSample
 stream_samples cut s = items_samples cut first_context s.items ++ ending_samples (ending_context cut s) s.ending
 
--- the lines of a stream, where fragments are listed: those of its items, and those of its ending
-abbrev pub stream_lines : Cut → Stream → List ℕ
-stream_lines cut s = items_lines cut first_context s.items ++ ending_lines (ending_context cut s) s.ending
+-- what a command writes of a stream: what it writes of its items, and of its ending
+abbrev pub stream_listing : Command → Cut → Stream → List ℕ
+stream_listing command cut s = items_listing command cut first_context s.items ++ ending_listing command (ending_context cut s) s.ending
 
 -- ---- its recut text, as a stream
 

@@ -6,13 +6,15 @@
 //! - [`indexes_are_true`]: each index in it is true of the fragments after it;
 //! - [`recut_text_with_an_index`]: when it is read without a fault with the same cut and an index;
 //! - [`recut_text_has_a_line_a_piece`]: how it is listed by its fragments;
+//! - [`recut_text_has_a_record_a_piece`]: how it is listed by records;
 //! - [`items`]: the laws over pieces, runs and items on which these rest.
 //!
 //! The definitions: `specs/RecutText.antt` (the recut text, and reports on samples, by the
 //! bytes of a stream alone), `specs/Streams.antt` (a stream without a fault, by its items, and the
 //! stream that it is recut to), `specs/MediaSamples.antt` (a sample with its bytes),
 //! `specs/MoofEnds.antt` (where the moofs of a stream end, and their numbers),
-//! `specs/PieceLines.antt` (the lines of fragments, where each has one),
+//! `specs/Listings.antt` (what a command writes of items), `specs/EachFragment.antt` (what holds of each fragment),
+//! `specs/PieceLines.antt` and `specs/PieceRecords.antt` (the line and the record of a piece),
 //! `specs/IndexTruth.antt` (when an index is true of the items after it) and
 //! `specs/PieceTimes.antt` (when an index has room for the time of each piece). The laws of
 //! [`items`] speak of `specs/PieceItems.antt` and `specs/RecutItems.antt` (pieces, and the recut
@@ -22,7 +24,7 @@
 //! No function here has a body: each clause is a law.
 #![tactic(auto)]
 
-ghost use Rattle.std.specs.Prelude.{◌≡◌, ◌↔◌, ◌+◌, ◌<◌, ◌≤◌, ◌^◌, ℕ, List, length, false, true, None};
+ghost use Rattle.std.specs.Prelude.{◌≡◌, ◌↔◌, ◌+◌, ◌*◌, ◌<◌, ◌≤◌, ◌^◌, ℕ, List, length, false, true, Some, None};
 ghost use Rattle.std.specs.List.{flat_map};
 ghost use Rattle.mp4_box.specs.Headers.{IsBytes};
 ghost use Rattle.mp4_init.specs.declared.table.Track.{Track};
@@ -33,19 +35,24 @@ ghost use Rattle.mp4_cut.specs.Moof.{WrittenFragment};
 ghost use Rattle.mp4_cut.specs.Reads.{held_moof};
 ghost use Rattle.mp4_machine.specs.Readings.{Sound, whole_in};
 ghost use Rattle.mp4_grammar.specs.Commands as commands;
-ghost use Rattle.mp4_grammar.specs.Contexts.{first_context};
-ghost use Rattle.mp4_grammar.specs.declared.command.Command.TheVariants.{Fragments};
+ghost use Rattle.mp4_grammar.specs.Contexts.{context, first_context};
+ghost use Rattle.mp4_grammar.specs.FragmentLines.{traf_line};
+ghost use Rattle.mp4_grammar.specs.TrafRecords.{record_bytes, record_len};
+ghost use Rattle.mp4_grammar.specs.declared.command.Command.TheVariants.{Fragments, Records};
 ghost use Rattle.mp4_recut.specs.Splitting.{reading};
+ghost use Rattle.mp4_recut_laws.specs.EachFragment.{EachFragment};
 ghost use Rattle.mp4_recut_laws.specs.IndexTruth.{IndexesAreTrue};
 ghost use Rattle.mp4_recut_laws.specs.Indexes.{EndingIsIndexed, ItemsAreIndexed};
+ghost use Rattle.mp4_recut_laws.specs.Listings.{item_listing, items_listing};
 ghost use Rattle.mp4_recut_laws.specs.MediaSamples.{MediaSample};
 ghost use Rattle.mp4_recut_laws.specs.MoofEnds.{moof_ends};
-ghost use Rattle.mp4_recut_laws.specs.PieceItems.{IsOnePiece};
-ghost use Rattle.mp4_recut_laws.specs.PieceLines.{EachHasOneLine, items_lines};
+ghost use Rattle.mp4_recut_laws.specs.PieceItems.{IsOnePiece, piece_item};
+ghost use Rattle.mp4_recut_laws.specs.PieceLines.{IsOneLine};
+ghost use Rattle.mp4_recut_laws.specs.PieceRecords.{IsOneRecord, LiesThere, piece_record, piece_traf};
 ghost use Rattle.mp4_recut_laws.specs.PieceTimes.{EndingTimesFit, FitsOwnIndex, ItemsTimesFit};
 ghost use Rattle.mp4_recut_laws.specs.RecutItems.{without_index};
 ghost use Rattle.mp4_recut_laws.specs.RecutText.{recut_text, reported_by};
-ghost use Rattle.mp4_recut_laws.specs.Streams.{IsSoundStream, IsWellFormed, Stream, ending_context, recut, stream_bytes, stream_lines, stream_samples, stream_text};
+ghost use Rattle.mp4_recut_laws.specs.Streams.{IsSoundStream, IsWellFormed, Stream, ending_context, recut, stream_bytes, stream_listing, stream_samples, stream_text};
 
 pub mod items;
 
@@ -143,14 +150,48 @@ pub fn recut_text_with_an_index()
 {}
 
 /// Where the recut text takes the place of the stream, `fragments` lists one line a piece. The line has the number of
-/// the piece, where it begins in the recut text, and how many bytes and samples it has. Of every stream without a fault
-/// the lines are those of its items, and those of its ending.
+/// the piece, where it begins in the recut text, and how many bytes and samples it has; each of its fields is what the
+/// piece was written from. Of every stream without a fault the lines are those of its items, and those of its ending.
 pub fn recut_text_has_a_line_a_piece()
     ensures stream { (cut : Cut) (s : Stream) → IsSoundStream cut s →
-        (commands.reading Fragments (stream_bytes s)).effects.text ≡ stream_lines cut s }
+        (commands.reading Fragments (stream_bytes s)).effects.text ≡ stream_listing Fragments cut s }
     ensures recut { (cut : Cut) (s : Stream) → IsSoundStream cut s → length (stream_text cut s) ≤ 2 ^ 62 →
         (commands.reading Fragments (stream_text cut s)).effects.text ≡
-        items_lines (without_index cut) first_context (recut cut s).items }
+        items_listing Fragments (without_index cut) first_context (recut cut s).items }
     ensures one { (cut : Cut) (s : Stream) → IsSoundStream cut s →
-        EachHasOneLine (without_index cut) first_context (recut cut s).items }
+        EachFragment IsOneLine (without_index cut) first_context (recut cut s).items }
+    ensures piece { (cut : Cut) (at number : ℕ) (tracks : List Track) (f : WrittenFragment)
+        (media : List ℕ) → number < 2 ^ 32 → IsOnePiece cut tracks f media →
+        item_listing Fragments (context at (Some tracks) number) (piece_item f number media) ≡
+        traf_line (piece_traf tracks at number f media) }
+{}
+
+/// Where the recut text takes the place of the stream, its listing by records is one record of 88 bytes a piece, in the
+/// order of the pieces: as many as the cut counts fragments. The bytes of a piece are in the recut text at the offset
+/// of its record. Of every stream without a fault the records are those of its items, and those of its ending.
+///
+/// The record of a piece has the offset of its moof in the recut text, and how many bytes moof and mdat have, and their
+/// media; the number of the piece (ISO/IEC 14496-12, 8.8.5), and its track_ID (8.8.7). In ticks of its track it has the
+/// decode time of the first sample (8.8.12), all durations added up, and the least composition time less that decode
+/// time. It says how many samples there are, whether the first is a sync sample (8.8.3), and how many are. Of the track
+/// it has the timescale, the handler_type, the entry_count, and the tick at which the track ended before.
+pub fn recut_text_has_a_record_a_piece()
+    ensures stream { (cut : Cut) (s : Stream) → IsSoundStream cut s →
+        (commands.reading Records (stream_bytes s)).effects.text ≡ stream_listing Records cut s }
+    ensures recut { (cut : Cut) (s : Stream) → IsSoundStream cut s → length (stream_text cut s) ≤ 2 ^ 62 →
+        (commands.reading Records (stream_text cut s)).effects.text ≡
+        items_listing Records (without_index cut) first_context (recut cut s).items }
+    ensures one { (cut : Cut) (s : Stream) → IsSoundStream cut s →
+        EachFragment (IsOneRecord (without_index cut)) (without_index cut) first_context
+        (recut cut s).items }
+    ensures place { (cut : Cut) (s : Stream) → IsSoundStream cut s →
+        EachFragment (LiesThere (stream_text cut s)) (without_index cut) first_context
+        (recut cut s).items }
+    ensures count { (cut : Cut) (s : Stream) → IsSoundStream cut s → length (stream_text cut s) ≤ 2 ^ 62 →
+        length (commands.reading Records (stream_text cut s)).effects.text ≡
+        record_len * (reading cut (stream_bytes s)).effects.tally.fragments }
+    ensures piece { (cut : Cut) (at number : ℕ) (tracks : List Track) (f : WrittenFragment)
+        (media : List ℕ) → number < 2 ^ 32 → IsOnePiece cut tracks f media →
+        item_listing Records (context at (Some tracks) number) (piece_item f number media) ≡
+        record_bytes (piece_record tracks at number f media) }
 {}
