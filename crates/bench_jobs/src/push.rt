@@ -136,6 +136,6 @@ pub(crate) fn print_counts(rt: &HostRuntime, input: &Input<'_>) -> io::Result<()
     let Outcome { answer, live } = cut_stream(rt.alloc(), input.stream, input.len, cut, &mut w);
     match answer {
         Ok(totals) => println!(rt; "{} fragments, {} bytes", totals.fragments, w.bytes),
-        Err(stop) => println!(rt; "{stop:?} behind {} bytes, {live} claimed", w.bytes),
+        Err(stop) => println!(rt; "{stop:?} after {} bytes, {live} claimed", w.bytes),
     }
 }

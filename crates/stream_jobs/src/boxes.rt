@@ -1,4 +1,4 @@
-//! The boxes of a stream, as they are put one behind the other.
+//! The boxes of a stream, as they are put one after the other.
 
 ghost use Rattle.std.specs.Prelude.{◌≤◌, length};
 

@@ -32,14 +32,14 @@ fn word(block: &[u8], at: usize) -> u64
     ])
 }
 
-/// A lane behind one more word.
+/// A lane after one more word.
 #[inline(always)]
 fn mix(lane: u64, word: u64) -> u64 {
     lane.wrapping_mul(FACTOR).wrapping_add(word)
 }
 
 impl Lanes {
-    /// The lanes behind one more block.
+    /// The lanes after one more block.
     #[inline(always)]
     fn with(self, block: &[u8]) -> Lanes
         requires { length block.now ≡ 32 }
@@ -57,7 +57,7 @@ impl Lanes {
 #[derive(Drop)]
 pub struct Digest {
     lanes: Lanes,
-    /// The bytes behind the last whole block.
+    /// The bytes after the last whole block.
     rest: ArrayVec<u8, 32>,
     bytes: u64,
 }
@@ -91,7 +91,7 @@ impl Digest {
         (self.bytes, answer)
     }
 
-    /// Takes these in behind the bytes of the rest: how many, none where there is no rest.
+    /// Takes these in after the bytes of the rest: how many, none where there is no rest.
     fn fill_rest(&mut self, from: &[u8]) -> usize
         ensures { result ≤ length from.now }
     {

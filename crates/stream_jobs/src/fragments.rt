@@ -45,14 +45,14 @@ const SYNC: u32 = 0x0200_0000;
 /// The flags of a sample that depends on others.
 const NOT_SYNC: u32 = 0x0101_0000;
 
-/// Where a number stands that is another one in each fragment, and in which fragment of a period it is.
+/// Where a number lies that is another one in each fragment, and in which fragment of a period it is.
 #[derive(Clone, Copy)]
 pub struct Mark {
     pub at: usize,
     pub fragment: u32,
 }
 
-/// Fragments one behind the other, and where their numbers and times stand.
+/// Fragments one after the other, and where their numbers and times lie.
 #[derive(Drop)]
 pub struct Fragments {
     pub boxes: Boxes,
@@ -116,8 +116,8 @@ const TFHD: u32 = 16;
 
 const TFDT: u32 = 20;
 
-/// The place of a run's media among those of a fragment, if they are shuffled: the runs of a track lie one behind the
-/// other, and the tracks by the cubes of numbers one behind the other, which go through all that are less than such a
+/// The place of a run's media among those of a fragment, if they are shuffled: the runs of a track lie one after the
+/// other, and the tracks by the cubes of numbers one after the other, which go through all that are less than such a
 /// prime.
 fn place(run: u32, shift: u32, layout: &Layout) -> u32 {
     if layout.tracks == 0 {
@@ -145,7 +145,7 @@ impl Fragments {
         }
     }
 
-    /// Puts the fragments of a period, one behind the other.
+    /// Puts the fragments of a period, one after the other.
     pub fn put_all(
         &mut self,
         alloc: Global,
@@ -190,7 +190,7 @@ impl Fragments {
         self.put_mdat(media, random)
     }
 
-    /// The place behind all bytes.
+    /// The place after all bytes.
     fn mark(&self, fragment: u32) -> Mark {
         Mark {
             at: self.boxes.bytes.len(),

@@ -14,7 +14,7 @@ use std::alloc::Global;
 const COPY: u32 = 65_536;
 
 /// How many bytes a Feeder is given at once: what a datagram of seven packets of MPEG transport streams has room for.
-const CHUNK: usize = 1_316;
+const DATAGRAM: usize = 1_316;
 
 /// The ledger's limit, in bytes.
 const LIMIT: u64 = 1 << 30;
@@ -113,8 +113,8 @@ struct Pushed {
 impl Pushed {
     /// Pushes bytes in, by datagrams.
     fn push(&mut self, bytes: &[u8], w: &mut Digest) -> Result<(), Stop> {
-        for chunk in bytes.chunks(CHUNK) {
-            self.feeder.feed(&mut self.ledger, chunk, w)?;
+        for datagram in bytes.chunks(DATAGRAM) {
+            self.feeder.feed(&mut self.ledger, datagram, w)?;
         }
         Ok(())
     }
@@ -145,7 +145,7 @@ fn feed(alloc: Global, stream: &mut Stream, cut: Cut, w: &mut Digest) -> Result<
         feeder: Feeder::new(cut),
         ledger: Ledger::new(alloc, LIMIT),
     };
-    // Behind a stop `finish` answers the same.
+    // After a stop `finish` answers the same.
     let _ = pushed.push_stream(stream, w);
     pushed.finish()
 }

@@ -1,9 +1,9 @@
-//! Numbers that look random, and are the same for the same seed: a generator of Marsaglia's, by three shifts of 64
+//! Pseudorandom numbers, which are the same for the same seed: a generator of Marsaglia's, by three shifts of 64
 //! bits. Source: G. Marsaglia, Xorshift RNGs, Journal of Statistical Software 8 (2003).
 
 ghost use Rattle.std.specs.Prelude.{◌<◌};
 
-/// The state behind the last number, which is never 0 for a state that wasn't.
+/// The state after the last number, which is never 0 for a state that wasn't.
 #[derive(Clone, Copy)]
 pub struct Random {
     state: u64,

@@ -8,7 +8,7 @@ use mp4_ends::{Failed, Source};
 use std::alloc::{AllocError, Global};
 use std::mem;
 
-/// A stream of so many periods behind its moov.
+/// A stream of so many periods after its moov.
 #[derive(Drop)]
 pub struct Stream {
     /// What is read.
