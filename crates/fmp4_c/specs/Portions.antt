@@ -42,15 +42,22 @@ abbrev pub later_by : Result Header Rule → (end last : ℕ) → ℕ
 later_by (Ok h) end last = later (kind_in h.kind.0) end last
 later_by (Err e) end last = last
 
+-- the same of the box at an offset of an input
+abbrev pub end_in : (input : List ℕ) → (most at : ℕ) → ℕ
+end_in input most at = end_by most at (result_of (header_at (drop at input)))
+
+abbrev pub last_in : (input : List ℕ) → (most at last : ℕ) → ℕ
+last_in input most at last = later_by (result_of (header_at (drop at input))) (end_in input most at) last
+
 -- where the last mdat ends among the first `most` bytes of an input, of at most so many boxes that follow one another, the
 -- first at an offset: `last` where none ends there
 unfoldable pub last_mdat : (boxes : ℕ) → (input : List ℕ) → (most at last : ℕ) → ℕ
 last_mdat zero input most at last = last
 last_mdat (suc n) input most at last =
     if nat_lt at most
-    then (if nat_lt most (end_by most at (result_of (header_at (drop at input))))
+    then (if nat_lt most (end_in input most at)
     then last
-    else last_mdat n input most (end_by most at (result_of (header_at (drop at input)))) (later_by (result_of (header_at (drop at input))) (end_by most at (result_of (header_at (drop at input)))) last))
+    else last_mdat n input most (end_in input most at) (last_in input most at last))
     else last
 
 -- where a body ends of which `left` bytes are to come, if that is among so many bytes: after these if not, or if none is left
