@@ -117,32 +117,8 @@ fn whole_both(groups: &[u8], size_at: u32, duration_at: u32, len: u32, count: u3
     Sums { bytes, ticks }
 }
 
-/// The same, whatever is there.
-#[inline(never)]
-fn any_both(groups: &[u8], size_at: u32, duration_at: u32, len: u32, count: u32) -> Sums
-    ensures bytes { result.bytes ≡ numbers_from groups.now len size_at count }
-    ensures ticks { result.ticks ≡ numbers_from groups.now len duration_at count }
-    ensures few_bytes { result.bytes ≤ 4294967295 * count }
-    ensures few_ticks { result.ticks ≤ 4294967295 * count }
-{
-    let step = u64::from(len);
-    let mut size_place = u64::from(size_at);
-    let mut duration_place = u64::from(duration_at);
-    let mut bytes = 0;
-    let mut ticks = 0;
-    let mut rows_left = count;
-    while rows_left > 0 {
-        bytes += u64::from(number_in(groups, size_place));
-        ticks += u64::from(number_in(groups, duration_place));
-        size_place += step;
-        duration_place += step;
-        rows_left -= 1;
-    }
-    Sums { bytes, ticks }
-}
-
 /// The numbers at two places of each of `count` groups of `len` bytes, of which the first begins the bytes, added up,
-/// those at each place by themselves: the groups are gone over once.
+/// those at each place by themselves: the groups are gone over once if all of them are there.
 #[inline(always)]
 fn both_sums(groups: &[u8], size_at: u32, duration_at: u32, len: u32, count: u32) -> Sums
     ensures bytes { result.bytes ≡ numbers_from groups.now len size_at count }
@@ -155,7 +131,10 @@ fn both_sums(groups: &[u8], size_at: u32, duration_at: u32, len: u32, count: u32
     if u64::from(size_at) + span <= room && u64::from(duration_at) + span <= room {
         whole_both(groups, size_at, duration_at, len, count)
     } else {
-        any_both(groups, size_at, duration_at, len, count)
+        Sums {
+            bytes: any_sum(groups, size_at, len, count),
+            ticks: any_sum(groups, duration_at, len, count),
+        }
     }
 }
 
