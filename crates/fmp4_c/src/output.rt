@@ -177,10 +177,7 @@ impl Output {
             close_up(&mut self.bytes, self.at);
             self.at = 0;
         }
-        match self.bytes.extend_from_slice(more) {
-            Ok(()) => {}
-            Err(_) => unreachable!(),
-        }
+        self.bytes.extend_from_slice(more).unwrap();
     }
 }
 

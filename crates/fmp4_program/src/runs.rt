@@ -128,9 +128,7 @@ fn cut_by(options: &SplitOptions) -> Cut
     requires { MayCut options.now }
     ensures { IsCutBy options.now result }
 {
-    let Some(cut) = Cut::new(options.samples, options.bytes, options.index) else {
-        unreachable!();
-    };
+    let cut = Cut::new(options.samples, options.bytes, options.index).unwrap();
     let cut = in_time(cut, options.duration);
     let cut = if options.keyframes {
         cut.with_keyframes()
@@ -154,10 +152,7 @@ fn in_time(cut: Cut, duration: Option<u32>) -> Cut
     let Some(millis) = duration else {
         return cut;
     };
-    match cut.with_duration(millis) {
-        Some(cut) => cut,
-        None => unreachable!(),
-    }
+    cut.with_duration(millis).unwrap()
 }
 
 /// Cuts the fragments of the stream into shorter ones, and flushes what was written.

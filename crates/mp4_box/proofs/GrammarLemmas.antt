@@ -1,6 +1,6 @@
 -- Nothing is at fault below a box exactly where it is a tree.
 use Rattle.std.proofs.Common.{◌≡◌, ℕ, zero, suc, ◌+◌, ◌-◌, ◌<◌, ◌≤◌, Bool, true, false, cond, ltb, List, [], ◌∷◌, ◌++◌, length, take, drop, Option, Some, None, refl, sym, ap, subst, ◌∙◌, append_assoc, arith, append-nil, inl, inr, ◌⊎◌}
-use Rattle.std.specs.Prelude.{slice_range, IsOk}
+use Rattle.std.specs.Prelude.{slice_range, IsOk, IsSome, option_map}
 use Rattle.std.specs.List.{concat, flat_map, AllByRecursion}
 use Rattle.std.proofs.lemmas.Bool.{ltb-false, le-ltb, cond-false}
 use Rattle.std.proofs.lemmas.List.{take_at, drop_at, take-append-drop, length-append, length-take, length-drop, take_all}
@@ -271,6 +271,11 @@ whole_found o x w e =
     let f = found w.0 w.1 x [] o w.2 in
     let at : box_at o x ≡ Some (mk w.0 o w.1) = ap (box_at o) (sym (append-nil x)) ∙ f.0 in
     absurd cc
+
+-- and whatever shows the box that they begin with is there
+pub whole_some : {X : Type 0} (f : X → Box) (o : ℕ) (x : List ℕ) (r : Option X) → IsWhole x → option_map f r ≡ box_at o x → IsSome r
+whole_some f o x None w e = absurd (whole_found o x w (sym e))
+whole_some f o x (Some r) w e = refl
 
 -- a box that takes all of the bytes
 pub is_whole : (x : List ℕ) (b : Box) → IsBytes x → box_at 0 x ≡ Some b → box_len b ≡ length x → IsWhole x

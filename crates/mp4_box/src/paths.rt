@@ -80,10 +80,7 @@ fn next_on<'a>(
     ensures deep { length above.new.items < length path.now }
 {
     loop {
-        let (kind, below) = match path[above.len()..].split_first() {
-            Some(first) => first,
-            None => unreachable!(),
-        };
+        let (kind, below) = path[above.len()..].split_first().unwrap();
         let Some(child) = walk.next() else {
             let Some(outer) = above.pop() else {
                 return None;

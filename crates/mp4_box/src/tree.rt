@@ -219,10 +219,7 @@ pub fn whole_box<'a>(bytes: &'a [u8], offset: u64) -> BoxRef<'a>
     requires room { offset + length bytes.now ≤ 2 ^ 62 }
     ensures { box_at offset bytes.now ≡ Some (view result) }
 {
-    match first_box(bytes, offset) {
-        Some(this) => this,
-        None => unreachable!(),
-    }
+    first_box(bytes, offset).unwrap()
 }
 
 /// Checks the tree of a whole box of stated size, which begins at `offset`.

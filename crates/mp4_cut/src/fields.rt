@@ -44,10 +44,7 @@ impl Fields {
         requires { length self ≡ 92 }
         ensures { result ≡ self }
     {
-        match self.bytes.into_inner() {
-            Ok(bytes) => bytes,
-            Err(_) => unreachable!(),
-        }
+        self.bytes.into_inner().unwrap()
     }
 
     /// Puts bytes after the fields.

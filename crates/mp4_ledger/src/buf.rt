@@ -61,10 +61,7 @@ impl Buf {
         requires { length self.old.bytes + length more.now ≤ self.old.cap }
         ensures { self.new ≡ record self.old { bytes = self.old.bytes ++ more.now } }
     {
-        match self.bytes.extend_from_slice(more) {
-            Ok(()) => {}
-            Err(_) => unreachable!(),
-        }
+        self.bytes.extend_from_slice(more).unwrap();
     }
 
     /// Cuts it, or fills it with zeros, to the length `n`, and returns its bytes as a borrow.
@@ -74,10 +71,7 @@ impl Buf {
         ensures value { result.now ≡ fitted self.old.bytes n }
         ensures len { length result.now ≡ n }
     {
-        match self.bytes.resize(n, 0) {
-            Ok(()) => {}
-            Err(_) => unreachable!(),
-        }
+        self.bytes.resize(n, 0).unwrap();
         self.bytes.as_mut_slice()
     }
 

@@ -40,9 +40,7 @@ fn first_by_row(run: &Run, moof_bytes: &[u8], cut: &Cut, at: &Cursor) -> PlainPi
     ensures { pieces_from cut.now moof_bytes.now run.now at.now ≡ piece_of moof_bytes.now run.now result ∷
         pieces_from cut.now moof_bytes.now run.now (plain_end result) }
 {
-    let Some(piece) = Pieces::at(run, moof_bytes, cut, *at).next() else {
-        unreachable!();
-    };
+    let piece = Pieces::at(run, moof_bytes, cut, *at).next().unwrap();
     PlainPiece::of(&piece)
 }
 

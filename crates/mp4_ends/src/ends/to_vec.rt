@@ -90,10 +90,8 @@ impl Sink for ToVec {
             self.broken = true;
             return Err(Failed);
         }
-        match self.taken.extend_from_slice(&from[..n]) {
-            Ok(()) => Ok(n),
-            Err(_) => unreachable!(),
-        }
+        self.taken.extend_from_slice(&from[..n]).unwrap();
+        Ok(n)
     }
 
     fn flush(&mut self) -> Result<(), Failed>

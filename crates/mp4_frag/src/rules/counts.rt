@@ -39,10 +39,7 @@ pub(crate) fn samples_in(moof: &BoxRef<'_>) -> u32
     ensures samples { result ≡ samples_of (view moof.now) }
     ensures few { result ≤ most_in_moof }
 {
-    match count_samples(moof) {
-        Ok(count) => count,
-        Err(_) => unreachable!(),
-    }
+    count_samples(moof).unwrap()
 }
 
 /// How many truns the trafs of a moof have.

@@ -105,9 +105,7 @@ fn single_of<'a>(
     let Some(trun) = only_of(TRUN, heads.rest) else {
         return None;
     };
-    let Some(track) = tracks.find(track_id(heads.tfhd)) else {
-        unreachable!();
-    };
+    let track = tracks.find(track_id(heads.tfhd)).unwrap();
     let tfhd = heads.tfhd;
     Some(SingleRun {
         run: run_with(

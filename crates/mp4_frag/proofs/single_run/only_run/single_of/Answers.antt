@@ -1,7 +1,9 @@
-use Rattle.std.proofs.Common.{◌∙◌, ◌==◌, ap, pos, refl, sym}
+use Rattle.std.proofs.Common.{◌∙◌, ◌==◌, ℕ, Option, ap, pos, refl, subst, sym}
+use Rattle.std.specs.Prelude.{IsSome}
 use Rattle.std.specs.List.{position}
 use Rattle.mp4_box.specs.Trees.{view}
 use Rattle.mp4_init.specs.declared.table.Track.{Track}
+use Rattle.mp4_traf.specs.Tfhd.{track_id}
 use Rattle.mp4_traf.specs.Runs.{base_of, moof_at, shared_by, track_of}
 use Rattle.mp4_frag.proofs.SingleRunLemmas.{not_single}
 use Rattle.mp4_traf.proofs.StartLemmas.{Starts}
@@ -19,6 +21,11 @@ returns-in_default-clause-none c =
 pub run_with-requires-clause-trun : goal.run_with-requires-clause-trun
 run_with-requires-clause-trun c = sym c.heads_of-heads.ensures.truns ∙ c.in-Some.ensures.only
 
+pub unwrap-track-requires : goal.unwrap-track-requires
+unwrap-track-requires c =
+    let id = ap track_id (sym c.heads_of-heads.ensures.tfhd) ∙ sym c.track_id.ensures in
+    subst (λ (i : Option ℕ). IsSome i) (ap (λ id. position (λ (t : Track). t.id == id) c.args.tracks.now) id ∙ sym c.find.ensures.first) c.requires.known
+
 pub run_with-requires-clause-track : goal.run_with-requires-clause-track
 run_with-requires-clause-track c =
-    ap (λ id. position (λ (t : Track). t.id == id) c.args.tracks.now) (sym c.track_id.ensures) ∙ sym c.find.ensures.first ∙ c.in-Some-find.is
+    ap (λ id. position (λ (t : Track). t.id == id) c.args.tracks.now) (sym c.track_id.ensures) ∙ sym c.find.ensures.first ∙ c.unwrap-track.ensures
