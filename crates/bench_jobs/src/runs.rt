@@ -45,7 +45,7 @@ fn count(ledger: &mut Ledger, list: &mut TrackList, moof: &[u8]) -> Result<Count
         start: 0,
         end: None,
     };
-    let placed = moof.places(payload, &runs, &mut steps);
+    let placed = moof.places(payload, &runs);
     let count = runs.len();
     runs.back(ledger);
     if let Err(fault) = placed {

@@ -1,12 +1,13 @@
 //! From the bytes of a moof to its runs.
 
-ghost use Rattle.std.specs.Prelude.{◌≡◌, ◌+◌, ◌^◌, ◌<◌, ◌≤◌, ◌↔◌, [], length, true, false, Some, None, Err, IfErr, IfOk, IfSome, OnOk, IsSome};
+ghost use Rattle.std.specs.Prelude.{◌≡◌, ◌+◌, ◌^◌, ◌<◌, ◌≤◌, ◌↔◌, List, [], length, true, false, Some, None, Err, IfErr, IfOk, IfSome, OnOk, IsSome};
 ghost use Rattle.std.specs.List.{AllByRecursion};
 ghost use Rattle.std.specs.Option.{is_none, option_or};
 ghost use Rattle.mp4_box.specs.declared.rules.Fault.{Fault};
 ghost use Rattle.mp4_box.specs.Headers.{IsWhole};
 ghost use Rattle.mp4_box.specs.Order.{IsLeast, least, least_from};
 ghost use Rattle.mp4_box.specs.Trees.{view};
+ghost use Rattle.mp4_init.specs.declared.table.Track.{Track};
 ghost use Rattle.mp4_frag.specs.Implementation.AtOnce.{HasEarlyEnd, IsCount, fault_of, most_64};
 ghost use Rattle.mp4_frag.specs.Moofs.{IsRead, fault_before_times, moof_fault, moof_faults, moof_of, moof_samples, moof_trafs, moof_truns, sequence_of, time_faults, value_faults};
 ghost use Rattle.mp4_frag.specs.Repeats.{repeat_faults, trafs_of, untimed_ids};
@@ -314,11 +315,11 @@ impl<'a> Moof<'a> {
         }
     }
 
-    /// The moof again that was read from these bytes with these tracks. It reads no row.
-    pub fn again(moof_bytes: &'a [u8], offset: u64, tracks: &TrackList) -> Moof<'a>
+    /// The moof again that was read from these bytes, with whatever tracks. It reads no row.
+    pub fn again(moof_bytes: &'a [u8], offset: u64) -> Moof<'a>
         requires whole { IsWhole moof_bytes.now }
         requires room { offset + length moof_bytes.now ≤ 2 ^ 62 }
-        requires read { IsRead (moof_at moof_bytes.now offset) tracks.now }
+        requires read { (tracks : List Track) × IsRead (moof_at moof_bytes.now offset) tracks }
         ensures { result ≡ moof_at moof_bytes.now offset }
     {
         Moof::of(moof_bytes, offset, None)

@@ -16,7 +16,7 @@ use crate::single_run::SingleRun;
 use mp4_box::types::TRUN;
 use mp4_box::{Fault, Rule};
 use mp4_run_order::{Payload, PlaceSearch};
-use mp4_traf::{Run, Steps};
+use mp4_traf::Run;
 
 /// Fault of the trun that begins at this offset and may not lie where it does.
 pub(crate) fn run_place_fault(offset: u64) -> Fault
@@ -38,12 +38,11 @@ impl<'a> Moof<'a> {
     /// RunPlace at the first trun in the listing that is at fault: it has samples, and its run doesn't lie in the
     /// payload, shares a byte with a run that is listed earlier, or begins before the end of a run of its track
     /// with samples that is listed earlier.
-    pub fn places(&self, payload: Payload, list: &RunList, steps: &mut Steps) -> Result<(), Fault>
+    pub fn places(&self, payload: Payload, list: &RunList) -> Result<(), Fault>
         ensures fault { (tracks : List Track) → IsListOf self.now tracks list.now →
             fault_of result ≡ place_fault payload (moof_runs self.now tracks) }
         ensures first { (tracks : List Track) → IsListOf self.now tracks list.now →
             IsPlaceFault payload (moof_listing self.now tracks) (fault_of result) }
-        ensures steps { steps.new ≡ steps.old }
     {
         let mut search = PlaceSearch::new(payload, list.faulty_by_track);
         for taken in runs_of(&list.rows) {

@@ -1,11 +1,11 @@
 //! A moof that waits for its mdat.
 
-ghost use Rattle.std.specs.Prelude.{◌≡◌, Some, ◌≤◌};
+ghost use Rattle.std.specs.Prelude.{◌≡◌, Some, ◌≤◌, List};
+ghost use Rattle.mp4_init.specs.declared.table.Track.{Track};
 ghost use Rattle.mp4_ledger.specs.Memory.{given_back};
 ghost use Rattle.mp4_fragment_machine.specs.States.{IsPendingMoof, moof_in, taken_by};
 
 use mp4_frag::{Moof, RunList};
-use mp4_init::TrackList;
 use mp4_ledger::Ledger;
 use mp4_machine::BufferedBox;
 
@@ -16,13 +16,13 @@ pub(crate) struct PendingMoof {
 }
 
 impl PendingMoof {
-    /// The moof that was read from its bytes with these tracks. It reads no row.
+    /// The moof that was read from its bytes. It reads no row.
     #[inline(always)]
-    pub(crate) fn moof(&self, tracks: &TrackList) -> Moof<'_>
-        requires { IsPendingMoof (Some tracks.now) self.now }
+    pub(crate) fn moof(&self) -> Moof<'_>
+        requires { (tracks : List Track) × IsPendingMoof (Some tracks) self.now }
         ensures { result ≡ moof_in self.now }
     {
-        Moof::again(self.moof.bytes(), self.moof.offset(), tracks)
+        Moof::again(self.moof.bytes(), self.moof.offset())
     }
 }
 

@@ -159,6 +159,8 @@ pub(crate) fn back_tracks(carried: &mut Carried, ledger: &mut Ledger)
 }
 
 /// Stops at a header: holds nothing, and gives back the tracks.
+// As that of `let_go`.
+#[inline(never)]
 pub(crate) fn stop_at(current: &mut State, carried: &mut Carried, ledger: &mut Ledger)
     requires header { (old : ℕ) × (current.old ≡ states.Header old) }
     requires claim { table_of carried.old.tracks ≤ ledger.old.live }

@@ -4,10 +4,13 @@ use Rattle.std.specs.Prelude.{◌≡◌, ◌+◌, true, List, [], ◌∷◌, ◌
 use Rattle.mp4_box.specs.declared.rules.Fault.{Fault}
 use Rattle.mp4_box.specs.declared.checks.Layout.TheVariants.{Exactly}
 use Rattle.mp4_box.specs.Checks.{laid_out}
-use Rattle.mp4_box.specs.Trees.{Box, box_len, children}
+use Rattle.mp4_box.specs.Trees.{Box, box_faults, box_len, children}
 use Rattle.mp4_init.specs.declared.table.Track.{Track}
 use Rattle.mp4_traf.specs.Kinds.{is_kind, mfhd, traf, tfhd, tfdt, trun}
+use Rattle.mp4_frag.specs.Implementation.AtOnce.{IsEarly}
 use Rattle.mp4_frag.specs.Mfhd.{mfhd_len}
+use Rattle.mp4_frag.specs.Moofs.{value_faults}
+use Rattle.mp4_frag.specs.Rules.{form_faults}
 use Rattle.mp4_traf.specs.Rules.{tfhd_faults, tfhd_length, trun_faults, trun_length}
 use Rattle.mp4_traf.specs.Tfdt.{tfdt_layout}
 
@@ -34,3 +37,10 @@ pub record HasCommonLayout (m a t b c d : Box) : Type 0 where
 -- faults of each of its boxes by itself
 abbrev pub common_faults : List Track → (a b c d : Box) → List Fault
 common_faults tracks a b c d = laid_out (Exactly mfhd_len) a ++ ((tfhd_length b ++ tfhd_faults tracks b) ++ (laid_out tfdt_layout c ++ (trun_length d ++ trun_faults d)))
+
+-- no box of a moof is at fault by itself, and its times are early
+pub record IsSoundEarly (tracks : List Track) (m : Box) : Type 0 where
+  pub tree : box_faults m ≡ []
+  pub forms : form_faults m ≡ []
+  pub values : value_faults tracks m ≡ []
+  pub early : IsEarly tracks m

@@ -8,15 +8,12 @@ ghost use Rattle.std.specs.Prelude.{◌≡◌, ◌∷◌, ◌≤◌, ◌^◌, �
 ghost use Rattle.std.specs.List.{position};
 ghost use Rattle.std.specs.Str.{bytes_eq};
 ghost use Rattle.mp4_box.specs.Headers.{IsWhole, uuid};
-ghost use Rattle.mp4_box.specs.Trees.{box_at, box_faults, box_len, view};
-ghost use Rattle.mp4_frag.specs.Implementation.AtOnce.{IsEarly};
+ghost use Rattle.mp4_box.specs.Trees.{Box, box_at, box_len, view};
 ghost use Rattle.mp4_traf.specs.Kinds.{is_kind};
 ghost use Rattle.mp4_frag.specs.SingleRuns.{IsSingle};
-ghost use Rattle.mp4_frag.specs.Moofs.{value_faults};
-ghost use Rattle.mp4_frag.specs.Rules.{form_faults};
 ghost use Rattle.mp4_traf.specs.Runs.{moof_at};
 ghost use Rattle.mp4_traf.specs.Tfhd.{track_id};
-ghost use Rattle.mp4_frag.specs.Implementation.CommonLayout.{HasCommonLayout};
+ghost use Rattle.mp4_frag.specs.Implementation.CommonLayout.{HasCommonLayout, IsSoundEarly};
 
 use crate::at_once::LATE;
 use crate::rules::counts::MOST_IN_MOOF;
@@ -106,17 +103,10 @@ fn common_of<'a>(moof: &BoxRef<'a>) -> Option<CommonLayout<'a>>
 
 /// The index of the track of a moof of the common layout, where nothing is at fault with it and its time is early.
 #[inline(always)]
-fn sound_track(
-    tracks: &TrackList,
-    moof: &BoxRef<'_>,
-    common_layout: &CommonLayout<'_>,
-) -> Option<usize>
-    requires { HasCommonLayout (view moof.now) (view common_layout.now.mfhd) (view common_layout.now.traf)
-        (view common_layout.now.tfhd) (view common_layout.now.tfdt) (view common_layout.now.trun) }
-    ensures tree { IsSome result → box_faults (view moof.now) ≡ [] }
-    ensures forms { IsSome result → form_faults (view moof.now) ≡ [] }
-    ensures values { IsSome result → value_faults tracks.now (view moof.now) ≡ [] }
-    ensures early { IsSome result → IsEarly tracks.now (view moof.now) }
+fn sound_track(tracks: &TrackList, common_layout: &CommonLayout<'_>) -> Option<usize>
+    ensures sound { (moof : Box) → HasCommonLayout moof (view common_layout.now.mfhd)
+        (view common_layout.now.traf) (view common_layout.now.tfhd) (view common_layout.now.tfdt)
+        (view common_layout.now.trun) → IsSome result → IsSoundEarly tracks.now moof }
     ensures found { IfSome result (λ i.
         position (λ t. t.id == track_id common_layout.now.tfhd.payload.now) tracks.now ≡ Some i) }
     ensures within { IfSome result (λ i. i < length tracks.now) }
@@ -151,7 +141,7 @@ pub(crate) fn common_run(moof_bytes: &[u8], offset: u64, tracks: &TrackList) -> 
     let Some(common_layout) = common_of(&moof) else {
         return None;
     };
-    let Some(track) = sound_track(tracks, &moof, &common_layout) else {
+    let Some(track) = sound_track(tracks, &common_layout) else {
         return None;
     };
     let time = base_media_decode_time(common_layout.tfdt.payload);

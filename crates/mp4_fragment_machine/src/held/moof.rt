@@ -110,7 +110,7 @@ fn read_moof<'a>(
 {
     if let Some(found) = found {
         return match found.count(counter) {
-            Ok(()) => Ok(Moof::again(buffered.bytes(), buffered.offset(), tracks)),
+            Ok(()) => Ok(Moof::again(buffered.bytes(), buffered.offset())),
             Err(fault) => Err(fault),
         };
     }

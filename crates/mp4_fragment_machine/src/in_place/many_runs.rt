@@ -8,7 +8,7 @@
 //! counted, and the fragment is taken like others, except that its rules aren't checked again. Then some fragments
 //! aren't tried in place. Nor are the rules checked again where the moof breaks one.
 
-ghost use Rattle.std.specs.Prelude.{◌≡◌, ◌≤◌, [], None, Some, Err, Ok, IfErr, IfOk, IfSome};
+ghost use Rattle.std.specs.Prelude.{◌≡◌, ◌≤◌, ℕ, List, [], None, Some, Err, Ok, IfErr, IfOk, IfSome};
 ghost use Rattle.mp4_traf.specs.Runs.{moof_at};
 ghost use Rattle.mp4_machine.specs.Ends.{sent};
 ghost use Rattle.mp4_machine.specs.Inputs.{change};
@@ -55,27 +55,27 @@ fn list_fragment<W: Sink>(
     command: Command,
     at: u64,
     boxes: &Boxes<'_>,
-    input: &[u8],
     carried: &mut Carried,
     ledger: &mut Ledger,
     out: &mut Block,
     w: &mut W,
 ) -> Result<u64, Untaken>
     requires known { carried.old.tracks ≡ Some (known carried.old.tracks) }
-    requires are { AreBoxes at input.now boxes.now }
+    requires are { (input : List ℕ) × AreBoxes at input boxes.now }
     requires empty { carried.old.header_bytes ≡ [] }
     requires operation { carried.old.operation ≡ operations.List command }
     requires lists { command ≡ Samples → ⊥ }
     requires can { CanStep carried.old ledger.old (states.Header at) }
-    ensures taken { IfOk result (λ n. TakesInPlace (borrowed W.contents W.has_failed w.old w.new out.old out.new
-        ledger.old ledger.new) carried.old carried.new at input.now (Ok n)) }
+    ensures taken { (input : List ℕ) → AreBoxes at input boxes.now → IfOk result (λ n. TakesInPlace (borrowed
+        W.contents W.has_failed w.old w.new out.old out.new ledger.old ledger.new) carried.old carried.new
+        at input (Ok n)) }
     ensures given_up { IfErr result (IfGivenUp (λ found. (carried.new ≡ carried.old) × (ledger.new ≡ ledger.old) ×
         (w.new ≡ w.old) × (out.new ≡ out.old) × IfSome found
         (WasReadInPlace (moof_at boxes.now.moof.now at) (known carried.old.tracks)))) }
     ensures unread { result ≡ Err (Untaken.GivenUp None) → MayBeReadInPlace (moof_at boxes.now.moof.now at) → ⊥ }
-    ensures failed { result ≡ Err Untaken.WriteFailed → StopsIn (borrowed W.contents W.has_failed w.old w.new
-        out.old out.new ledger.old ledger.new) carried.old carried.new (at_state carried.old (states.Header at))
-        input.now Stop.Write }
+    ensures failed { (input : List ℕ) → AreBoxes at input boxes.now → result ≡ Err Untaken.WriteFailed →
+        StopsIn (borrowed W.contents W.has_failed w.old w.new out.old out.new ledger.old ledger.new)
+        carried.old carried.new (at_state carried.old (states.Header at)) input Stop.Write }
 {
     let Some(list) = &mut carried.tracks else {
         unreachable!();
@@ -109,21 +109,22 @@ impl FragmentMachine {
         at: u64,
         boxes: &Boxes<'_>,
         ledger: &mut Ledger,
-        input: &[u8],
         out: &mut Block,
         w: &mut W,
     ) -> Result<usize, Untaken>
-        requires found { HasBoxes self.old ledger.old at input.now boxes.now }
+        requires found { (input : List ℕ) × HasBoxes self.old ledger.old at input boxes.now }
         requires claim { claim_of (place_in self.old) ≤ ledger.old.live }
-        ensures taken { IfOk result (λ n. Feeds (change (sent W.contents W.has_failed w.old w.new) out.old out.new
+        ensures taken { (input : List ℕ) → HasBoxes self.old ledger.old at input boxes.now → IfOk result (λ n.
+            Feeds (change (sent W.contents W.has_failed w.old w.new) out.old out.new
             ledger.old ledger.new self.old.counter.tally self.new.counter.tally)
-            self.old self.new input.now (Ok n)) }
+            self.old self.new input (Ok n)) }
         ensures given_up { IfErr result (IfGivenUp (λ found. (self.new ≡ self.old) × (ledger.new ≡ ledger.old) ×
             (w.new ≡ w.old) × (out.new ≡ out.old) × IfSome found
             (WasReadInPlace (moof_at boxes.now.moof.now at) (known self.old.tracks)))) }
-        ensures failed { result ≡ Err Untaken.WriteFailed → HasEnded (change (sent W.contents W.has_failed
+        ensures failed { (input : List ℕ) → HasBoxes self.old ledger.old at input boxes.now →
+            result ≡ Err Untaken.WriteFailed → HasEnded (change (sent W.contents W.has_failed
             w.old w.new) out.old out.new ledger.old ledger.new self.old.counter.tally self.new.counter.tally)
-            self.old self.new input.now Stop.Write }
+            self.old self.new input Stop.Write }
     {
         let command = match self.carried.operation {
             Operation::Split(_) | Operation::List(Command::Samples) => {
@@ -135,7 +136,7 @@ impl FragmentMachine {
             self.skips = self.skips.saturating_sub(boxes.moof.len() as u64);
             return Err(Untaken::GivenUp(None));
         }
-        match list_fragment(command, at, boxes, input, &mut self.carried, ledger, out, w) {
+        match list_fragment(command, at, boxes, &mut self.carried, ledger, out, w) {
             Ok(size) => {
                 go_to(&mut self.state, at + size);
                 Ok(size as usize)

@@ -108,13 +108,11 @@ impl FragmentMachine {
                         let complete = CompleteFragment { boxes, run: &run };
                         return match run.places(payload) {
                             Ok(()) => self.take_one_run(at, &complete, ledger, input, out, w),
-                            Err(fault) => Err(self.refuse_misplaced(
-                                at, &complete, fault, ledger, input,
-                            )),
+                            Err(fault) => Err(self.refuse_misplaced(&complete, fault, ledger)),
                         };
                     }
                     Ok(None) => {
-                        return match self.list_in_place(at, &boxes, ledger, input, out, w) {
+                        return match self.list_in_place(at, &boxes, ledger, out, w) {
                             Ok(count) => Ok(count),
                             Err(Untaken::GivenUp(found)) => {
                                 self.take_moof(at, moof, found, ledger, input, out, w)
@@ -123,7 +121,7 @@ impl FragmentMachine {
                         };
                     }
                     Err(fault) => {
-                        return Err(self.refuse_late(at, &boxes, steps.rows, fault, ledger, input));
+                        return Err(self.refuse_late(&boxes, steps.rows, fault, ledger));
                     }
                 }
             }

@@ -93,44 +93,56 @@ impl FragmentMachine {
     }
 
     /// Stops at a fragment that is whole in the input, whose moof has so many samples, and whose only fault is a time.
+    /// Its claim is counted, and so are its samples, which were read once.
+    #[inline(never)]
     pub(crate) fn refuse_late(
         &mut self,
-        at: u64,
         boxes: &Boxes<'_>,
         samples: u128,
         fault: Fault,
         ledger: &mut Ledger,
-        input: &[u8],
     ) -> Stop
-        requires found { HasTimeFault self.old ledger.old at input.now boxes.now samples fault }
+        requires found { (at : ℕ) × (input : List ℕ) ×
+            HasTimeFault self.old ledger.old at input boxes.now samples fault }
         requires claim { claim_of (place_in self.old) ≤ ledger.old.live }
-        ensures { (u : Untouched) → HasEnded (change (unsent u) u.waiting u.waiting
+        ensures ended { (u : Untouched) (at : ℕ) (input : List ℕ) →
+            HasTimeFault self.old ledger.old at input boxes.now samples fault →
+            HasEnded (change (unsent u) u.waiting u.waiting
             ledger.old ledger.new self.old.counter.tally self.new.counter.tally)
-            self.old self.new input.now result }
+            self.old self.new input result }
+        ensures rows_read { self.new.counter.steps.rows ≡ self.old.counter.steps.rows + samples }
     {
-        let stop = refuse_times(at, boxes, input, samples, fault, &mut self.carried, ledger);
+        count_allowed(ledger, boxes.moof.len() as u64);
+        inspect(&mut self.carried.counter, samples, samples);
         stop_at(&mut self.state, &mut self.carried, ledger);
-        stop
+        Stop::Stream(fault)
     }
 
-    /// Stops at a fragment that is whole in the input, whose only run may not lie where it does.
+    /// Stops at a fragment that is whole in the input, whose only run may not lie where it does. Its claim is counted,
+    /// and so are its samples, which were read twice.
+    #[inline(never)]
     pub(crate) fn refuse_misplaced(
         &mut self,
-        at: u64,
         complete: &CompleteFragment<'_>,
         fault: Fault,
         ledger: &mut Ledger,
-        input: &[u8],
     ) -> Stop
-        requires found { HasPlaceFault self.old ledger.old at input.now complete.now fault }
+        requires found { (at : ℕ) × (input : List ℕ) ×
+            HasPlaceFault self.old ledger.old at input complete.now fault }
         requires claim { claim_of (place_in self.old) ≤ ledger.old.live }
-        ensures { (u : Untouched) → HasEnded (change (unsent u) u.waiting u.waiting
+        ensures ended { (u : Untouched) (at : ℕ) (input : List ℕ) →
+            HasPlaceFault self.old ledger.old at input complete.now fault →
+            HasEnded (change (unsent u) u.waiting u.waiting
             ledger.old ledger.new self.old.counter.tally self.new.counter.tally)
-            self.old self.new input.now result }
+            self.old self.new input result }
+        ensures rows_read { self.new.counter.steps.rows ≡
+            self.old.counter.steps.rows + 2 * complete.now.run.now.run.count }
     {
-        let stop = refuse_place(at, complete, input, fault, &mut self.carried, ledger);
+        count_allowed(ledger, complete.boxes.moof.len() as u64 + ROW);
+        let samples = u128::from(complete.run.run.count);
+        inspect(&mut self.carried.counter, samples, 2 * samples);
         stop_at(&mut self.state, &mut self.carried, ledger);
-        stop
+        Stop::Stream(fault)
     }
 }
 
@@ -140,10 +152,7 @@ fn count_allowed(ledger: &mut Ledger, bytes: u64)
     requires { ledger.old.live + bytes ≤ ledger.old.limit }
     ensures { ledger.new ≡ given_back (claimed ledger.old bytes) bytes }
 {
-    match ledger.count_claim(bytes) {
-        Ok(()) => {}
-        Err(_) => unreachable!(),
-    }
+    ledger.count_claim(bytes).unwrap();
 }
 
 /// Counts a fragment, and puts the lines of its samples or of its traf if they are asked for. Its rows were read with
@@ -243,65 +252,4 @@ fn recut_run<W: Sink>(
         Ok(()) => Ok(()),
         Err(Failed) => Err(Failed),
     }
-}
-
-/// Stops at the moof of a fragment at `at`, whose only fault is a time. Its claim is counted, and so are its
-/// samples, which were read once.
-fn refuse_times(
-    at: u64,
-    boxes: &Boxes<'_>,
-    input: &[u8],
-    samples: u128,
-    fault: Fault,
-    carried: &mut Carried,
-    ledger: &mut Ledger,
-) -> Stop
-    requires known { carried.old.tracks ≡ Some (known carried.old.tracks) }
-    requires are { AreBoxes at input.now boxes.now }
-    requires good { fault_before_times (moof_at boxes.now.moof.now at) (known carried.old.tracks) ≡ None }
-    requires late { least (time_faults (moof_trafs (moof_at boxes.now.moof.now at)
-        (known carried.old.tracks))) ≡ Some fault }
-    requires samples { samples ≡ moof_samples (moof_at boxes.now.moof.now at) }
-    requires room { ledger.old.live + (length boxes.now.moof.now + 64) ≤ ledger.old.limit }
-    requires empty { carried.old.header_bytes ≡ [] }
-    requires can { CanStep carried.old ledger.old (states.Header at) }
-    ensures stops { (u : Untouched) → StopsIn (ledger_alone u ledger.old ledger.new) carried.old carried.new
-        (at_state carried.old (states.Header at)) input.now result }
-    ensures rows_read { carried.new.counter.steps.rows ≡ carried.old.counter.steps.rows +
-        moof_samples (moof_at boxes.now.moof.now at) }
-{
-    count_allowed(ledger, boxes.moof.len() as u64);
-    inspect(&mut carried.counter, samples, samples);
-    Stop::Stream(fault)
-}
-
-/// Stops at a fragment at `at` whose only run may not lie where it does. Its claim is counted, and so are its
-/// samples, which were read twice.
-fn refuse_place(
-    at: u64,
-    complete: &CompleteFragment<'_>,
-    input: &[u8],
-    fault: Fault,
-    carried: &mut Carried,
-    ledger: &mut Ledger,
-) -> Stop
-    requires known { carried.old.tracks ≡ Some (known carried.old.tracks) }
-    requires are { AreBoxes at input.now complete.now.boxes }
-    requires single_run { IsSingle (moof_at complete.now.boxes.moof.now at) (known carried.old.tracks)
-        complete.now.run.now }
-    requires misplaced { (are : AreBoxes at input.now complete.now.boxes) → place_fault
-        (payload_in (at + are.span.size) complete.now.boxes.mdat) (complete.now.run.now.run ∷ []) ≡
-        Some fault }
-    requires room { ledger.old.live + (length complete.now.boxes.moof.now + 64) ≤ ledger.old.limit }
-    requires empty { carried.old.header_bytes ≡ [] }
-    requires can { CanStep carried.old ledger.old (states.Header at) }
-    ensures stops { (u : Untouched) → StopsIn (ledger_alone u ledger.old ledger.new) carried.old carried.new
-        (at_state carried.old (states.Header at)) input.now result }
-    ensures rows_read { carried.new.counter.steps.rows ≡ carried.old.counter.steps.rows +
-        2 * complete.now.run.now.run.count }
-{
-    count_allowed(ledger, complete.boxes.moof.len() as u64 + ROW);
-    let samples = u128::from(complete.run.run.count);
-    inspect(&mut carried.counter, samples, 2 * samples);
-    Stop::Stream(fault)
 }

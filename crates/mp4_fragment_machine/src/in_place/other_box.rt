@@ -1,6 +1,6 @@
 //! Takes a box that is whole in the input, and is passed over or copied.
 
-ghost use Rattle.std.specs.Prelude.{◌≡◌, ◌≤◌, []};
+ghost use Rattle.std.specs.Prelude.{◌≡◌, ◌≤◌, ℕ, []};
 ghost use Rattle.mp4_ledger.specs.Memory.{Account};
 ghost use Rattle.mp4_machine.specs.Ends.{sent};
 ghost use Rattle.mp4_machine.specs.Inputs.{change};
@@ -42,7 +42,7 @@ impl FragmentMachine {
             ledger.old ledger.new self.old.counter.tally self.new.counter.tally)
             self.old self.new input.now result }
     {
-        match take_box_in_place(at, span, input, &self.carried, out, w) {
+        match take_box_in_place(span, input, &self.carried, out, w) {
             Ok(size) => {
                 go_to(&mut self.state, at + size);
                 Ok(size as usize)
@@ -62,16 +62,16 @@ impl FragmentMachine {
 /// `Write` where a write failed.
 #[inline(always)]
 fn take_box_in_place<W: Sink>(
-    at: u64,
     span: &Span,
     input: &[u8],
     carried: &Carried,
     out: &mut Block,
     w: &mut W,
 ) -> Result<u64, Stop>
-    requires is { IsFirstBox Other at input.now span.now }
+    requires is { (at : ℕ) × IsFirstBox Other at input.now span.now }
     requires empty { carried.now.header_bytes ≡ [] }
-    ensures { (account : Account) → CanStep carried.now account (states.Header at) →
+    ensures { (at : ℕ) (account : Account) → IsFirstBox Other at input.now span.now →
+        CanStep carried.now account (states.Header at) →
         TakesInPlace (borrowed W.contents W.has_failed w.old w.new out.old out.new account account)
         carried.now carried.now at input.now result }
 {

@@ -1,5 +1,6 @@
 //! Begins a fragment that is counted, or whose samples or trafs are listed.
 
+ghost use Rattle.std.specs.Prelude.{ℕ, List};
 ghost use Rattle.mp4_fragment_machine.specs.Implementation.Steps.{Advances, MayBeginFragment, borrowed, with_head};
 ghost use Rattle.mp4_recut.specs.declared.operation.Operation.TheVariants as operations;
 ghost use Rattle.mp4_fragment_machine.specs.declared.state.State.TheVariants as states;
@@ -25,16 +26,17 @@ pub(crate) fn accept_listed<W: Sink>(
     command: Command,
     pending_moof: PendingMoof,
     header: &Header,
-    header_bytes: &[u8],
     carried: &mut Carried,
     ledger: &mut Ledger,
     out: &mut Block,
     w: &mut W,
 ) -> Result<State, Stop>
-    requires { MayBeginFragment (operations.List command) carried.old ledger.old pending_moof
-        header.now header_bytes.now }
-    ensures { Advances (borrowed W.contents W.has_failed w.old w.new out.old out.new ledger.old ledger.new)
-        (with_head header_bytes.now carried.old) carried.new (states.MdatHeader pending_moof) result }
+    requires { (header_bytes : List ℕ) × MayBeginFragment (operations.List command) carried.old ledger.old
+        pending_moof header.now header_bytes }
+    ensures { (header_bytes : List ℕ) → MayBeginFragment (operations.List command) carried.old ledger.old
+        pending_moof header.now header_bytes →
+        Advances (borrowed W.contents W.has_failed w.old w.new out.old out.new ledger.old ledger.new)
+        (with_head header_bytes carried.old) carried.new (states.MdatHeader pending_moof) result }
 {
     let Some(list) = &mut carried.tracks else {
         unreachable!();

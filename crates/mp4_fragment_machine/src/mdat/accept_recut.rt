@@ -78,7 +78,7 @@ fn begin_media<W: Sink>(
         pending_moof.now (sent W.contents W.has_failed w.old w.new) out.old out.new tally.old tally.new result }
 {
     count_samples(tally, moof_totals.samples, moof_totals.bytes);
-    let moof = pending_moof.moof(tracks);
+    let moof = pending_moof.moof();
     let cut_moof = CutMoof {
         moof: &moof,
         runs: &pending_moof.runs,
@@ -121,7 +121,7 @@ fn check_fragment(
     ensures low { steps.old.rows ≤ steps.new.rows }
     ensures most { steps.new.rows ≤ steps.old.rows + cut_most cut.now.index samples }
 {
-    let moof = pending_moof.moof(tracks);
+    let moof = pending_moof.moof();
     match check_room(&moof, tracks, cut, number, samples, steps) {
         Ok(()) => {
             steps.rows += u128::from(samples * reads_per_row(cut));
@@ -253,16 +253,18 @@ fn enter_media(
 pub(crate) fn accept_recut<W: Sink>(
     pending_moof: PendingMoof,
     header: &Header,
-    header_bytes: &[u8],
     cut: Cut,
     carried: &mut Carried,
     ledger: &mut Ledger,
     out: &mut Block,
     w: &mut W,
 ) -> Result<State, Stop>
-    requires { MayBeginFragment (operations.Split cut) carried.old ledger.old pending_moof header.now header_bytes.now }
-    ensures { Advances (borrowed W.contents W.has_failed w.old w.new out.old out.new ledger.old ledger.new)
-        (with_head header_bytes.now carried.old) carried.new (states.MdatHeader pending_moof) result }
+    requires { (header_bytes : List ℕ) × MayBeginFragment (operations.Split cut) carried.old ledger.old
+        pending_moof header.now header_bytes }
+    ensures { (header_bytes : List ℕ) → MayBeginFragment (operations.Split cut) carried.old ledger.old
+        pending_moof header.now header_bytes →
+        Advances (borrowed W.contents W.has_failed w.old w.new out.old out.new ledger.old ledger.new)
+        (with_head header_bytes carried.old) carried.new (states.MdatHeader pending_moof) result }
 {
     let Some(list) = &carried.tracks else {
         unreachable!();

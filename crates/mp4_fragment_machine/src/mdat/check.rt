@@ -16,7 +16,7 @@ ghost use Rattle.mp4_box.specs.declared.headers.Step.TheVariants as steps;
 use crate::pending_moof::PendingMoof;
 use mp4_box::types::MOOF;
 use mp4_box::{Fault, Header, Rule, Size};
-use mp4_frag::{Payload, Steps};
+use mp4_frag::Payload;
 use mp4_grammar::{Kind, kind_of};
 use mp4_init::TrackList;
 use mp4_machine::is_too_long;
@@ -59,8 +59,8 @@ pub(crate) fn check_mdat(
     match kind_of(header.kind) {
         Kind::Mdat => {
             let payload = payload_of(next, header);
-            let moof = pending_moof.moof(tracks);
-            match moof.places(payload, &pending_moof.runs, &mut Steps { rows: 0 }) {
+            let moof = pending_moof.moof();
+            match moof.places(payload, &pending_moof.runs) {
                 Ok(()) => Ok(()),
                 Err(fault) => Err(fault),
             }

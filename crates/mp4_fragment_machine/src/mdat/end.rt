@@ -31,7 +31,7 @@ pub(crate) fn end_fragment(
     ensures few { counter.new.steps.rows ≤
         counter.old.steps.rows + moof_samples (moof_in pending_moof) }
 {
-    pending_moof.moof(tracks).settle(tracks, &mut counter.steps);
+    pending_moof.moof().settle(tracks, &mut counter.steps);
     let PendingMoof { moof, runs } = pending_moof;
     runs.back(ledger);
     moof.back(ledger);

@@ -50,16 +50,15 @@ pub(crate) fn take_mdat_header<W: Sink>(
         }
         HeaderStatus::Complete {
             header,
-            bytes,
+            bytes: _,
             count,
         } => {
-            let (header, head) = (&header, bytes.bytes());
             let begun = match carried.operation {
                 Operation::List(command) => {
-                    accept_listed(command, pending_moof, header, head, carried, ledger, out, w)
+                    accept_listed(command, pending_moof, &header, carried, ledger, out, w)
                 }
                 Operation::Split(cut) => {
-                    accept_recut(pending_moof, header, head, cut, carried, ledger, out, w)
+                    accept_recut(pending_moof, &header, cut, carried, ledger, out, w)
                 }
             };
             match begun {

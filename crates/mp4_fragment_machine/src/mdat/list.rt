@@ -95,7 +95,7 @@ fn put_pending<W: Sink>(
         Command::Samples => put_runs(pending_moof, tracks, out, w),
         _ => {
             let size = size_of(pending_moof.moof.size(), header);
-            put_moof_lines(command, &pending_moof.moof(tracks), size, tracks, out, w)
+            put_moof_lines(command, &pending_moof.moof(), size, tracks, out, w)
         }
     }
 }

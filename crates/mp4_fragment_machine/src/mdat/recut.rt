@@ -51,7 +51,7 @@ pub(crate) fn recut_front<W: Sink>(
     let (front, _) = input.split_at(most as usize);
     let media = &mut recutting.media;
     let pending_moof = &recutting.pending_moof;
-    let moof = pending_moof.moof(tracks);
+    let moof = pending_moof.moof();
     let cut_moof = CutMoof {
         moof: &moof,
         runs: &pending_moof.runs,

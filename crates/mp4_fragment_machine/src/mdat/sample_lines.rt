@@ -129,7 +129,7 @@ pub(crate) fn put_runs<W: Sink>(
     ensures { Puts (sent W.contents W.has_failed w.old w.new) out.old out.new
         (lines_of pending_moof.now tracks.now) result }
 {
-    let moof = pending_moof.moof(tracks);
+    let moof = pending_moof.moof();
     let mut i = 0;
     while i < pending_moof.runs.len() {
         let run = pending_moof.runs.at(i, &moof, tracks);

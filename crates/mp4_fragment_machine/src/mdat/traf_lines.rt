@@ -131,7 +131,7 @@ fn list_trafs<W: Sink>(
     ensures { Puts (sent W.contents W.has_failed w.old w.new) out.old out.new
         (moof_lines command (moof_at moof_bytes.now at) tracks.now size) result }
 {
-    let moof = Moof::again(moof_bytes, at, tracks);
+    let moof = Moof::again(moof_bytes, at);
     let mut trafs = moof.trafs(tracks);
     put_trafs(
         command,

@@ -41,7 +41,7 @@ fn read(
             pushed = taken.push((run.track, run.place));
         }
     }
-    let misplaced = match read.places(payload, &runs, &mut steps) {
+    let misplaced = match read.places(payload, &runs) {
         Ok(()) => None,
         Err(fault) => Some(fault),
     };

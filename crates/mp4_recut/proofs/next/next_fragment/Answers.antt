@@ -11,8 +11,9 @@ use Rattle.mp4_recut.proofs.next.next_fragment.Goals.{then-c-eq0, else-c-eq0}
 
 pub put_first-requires : goal.put_first-requires
 put_first-requires g c =
-    let last : c.args.number + length (left_in c.args.cut.now c.args.moof.now c.args.tracks.now c.args.number c.seek.new.c) ≤ 2 ^ 32 = omega (arith, c.requires.number, ap length (c.seek.ensures.same c.if-not-seek.false c.args.number)) in
-    record { at = search rules; some = search rules; last = last }
+    let last : c.args.number + length (left_in c.args.cut.now c.args.moof.now c.args.tracks.now c.args.number c.seek.new.c) ≤ 2 ^ 32 = omega (arith, c.requires.number, ap length ((c.seek.ensures c.args.cut.now c.requires.at c.requires.cut).same c.if-not-seek.false c.args.number)) in
+    let seeks = c.seek.ensures c.args.cut.now c.requires.at c.requires.cut in
+    record { at = seeks.at c.if-not-seek.false; some = seeks.some c.if-not-seek.false; last = last }
 
 pub returns-in-Err : goal.returns-in-Err
 returns-in-Err g c =
@@ -26,7 +27,7 @@ returns-in-Err g c =
     record {
       fragment = output_fragment (index_before cut at.run (timescale_of tracks at.run.track) at.group (pieces_ahead cut h at)) h.bytes at.run p c.args.number;
       later = left_in cut h tracks (c.args.number + 1) d;
-      is = c.seek.ensures.same c.if-not-seek.false c.args.number ∙ fragment_is cut h tracks at p (c.seek.ensures.at c.if-not-seek.false) puts.first d refl refl refl refl c.args.number;
+      is = (c.seek.ensures c.args.cut.now c.requires.at c.requires.cut).same c.if-not-seek.false c.args.number ∙ fragment_is cut h tracks at p ((c.seek.ensures c.args.cut.now c.requires.at c.requires.cut).at c.if-not-seek.false) puts.first d refl refl refl refl c.args.number;
       front = puts.put;
     }
 
@@ -47,9 +48,9 @@ returns g c =
     ] in
     record {
       fragment = output_fragment (index_before cut at.run (timescale_of tracks at.run.track) at.group (pieces_ahead cut h at)) h.bytes at.run p c.args.number;
-      is = c.seek.ensures.same c.if-not-seek.false c.args.number ∙ fragment_is cut h tracks at p (c.seek.ensures.at c.if-not-seek.false) puts.first d refl refl there group c.args.number;
+      is = (c.seek.ensures c.args.cut.now c.requires.at c.requires.cut).same c.if-not-seek.false c.args.number ∙ fragment_is cut h tracks at p ((c.seek.ensures c.args.cut.now c.requires.at c.requires.cut).at c.if-not-seek.false) puts.first d refl refl there group c.args.number;
       put = puts.put;
       place = omega (arith, c.media_offset.ensures, ap (λ (x : Piece). natural x.place) puts.is);
       len = sym (ap (λ (x : Piece). x.bytes) puts.is);
-      at = past_placed cut h tracks at p (c.seek.ensures.at c.if-not-seek.false) puts.first d refl refl there group puts.later;
+      at = past_placed cut h tracks at p ((c.seek.ensures c.args.cut.now c.requires.at c.requires.cut).at c.if-not-seek.false) puts.first d refl refl there group puts.later;
     }

@@ -29,8 +29,8 @@ run_with-requires-clause-sound c =
     let m = view c.in-Some.moof in
     let moof = is_moof c.args.offset c.args.moof_bytes.now m c.requires.whole (λ i. (c.type_inv.moof_bytes i).fits) c.requires.room c.in-Some.ensures.here in
     let trafs = of_trafs c.args.tracks.now m (view u.mfhd) (view u.traf) (view u.tfhd) (view u.tfdt) (view u.trun) c.in-Some-common_of.ensures in
-    let sound = c.sound_track.ensures in
-    let read = common_read h c.args.tracks.now m moof (sound.tree cc) (sound.forms cc) (sound.values cc) (sound.early cc) in
+    let sound = c.sound_track.ensures.sound m c.in-Some-common_of.ensures cc in
+    let read = common_read h c.args.tracks.now m moof sound.tree sound.forms sound.values sound.early in
     one_sound h c.args.tracks.now m (view u.traf) moof read trafs
 
 pub returns : goal.returns
@@ -40,8 +40,8 @@ returns c =
     let m = view c.in-Some.moof in
     let moof = is_moof c.args.offset c.args.moof_bytes.now m c.requires.whole (λ i. (c.type_inv.moof_bytes i).fits) c.requires.room c.in-Some.ensures.here in
     let trafs = of_trafs c.args.tracks.now m (view u.mfhd) (view u.traf) (view u.tfhd) (view u.tfdt) (view u.trun) c.in-Some-common_of.ensures in
-    let sound = c.sound_track.ensures in
-    let read = common_read h c.args.tracks.now m moof (sound.tree cc) (sound.forms cc) (sound.values cc) (sound.early cc) in
+    let sound = c.sound_track.ensures.sound m c.in-Some-common_of.ensures cc in
+    let read = common_read h c.args.tracks.now m moof sound.tree sound.forms sound.values sound.early in
     let found = c.run_with.ensures in
     let mfhd_here = of_mfhds c.args.tracks.now m (view u.mfhd) (view u.traf) (view u.tfhd) (view u.tfdt) (view u.trun) c.in-Some-common_of.ensures in
     let sequence = c.sequence_number.ensures ∙ sym (ap (λ box. sequence_number (payload_of (first_of (at_path (mfhd ∷ []) box)))) moof.is ∙ ap (λ bs. sequence_number (payload_of (first_of bs))) (path_kind mfhd m ∙ mfhd_here)) in

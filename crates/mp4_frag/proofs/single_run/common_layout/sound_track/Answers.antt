@@ -15,23 +15,14 @@ none c =
     let noted : c.note_at-5.new.best ≡ least_from None faults = search (rules, least_from_append) in
     none_noted faults c.note_at-5.new.best noted (sym c.if-is_some.ensures)
 
-pub returns-clause-tree : goal.returns-clause-tree
-returns-clause-tree c = λ _.
-    let u = c.args.common_layout.now in
-    common_tree c.args.tracks.now (view c.args.moof.now) (view u.mfhd) (view u.traf) (view u.tfhd) (view u.tfdt) (view u.trun) c.requires (none c)
-
-pub returns-clause-forms : goal.returns-clause-forms
-returns-clause-forms c = λ _.
-    let u = c.args.common_layout.now in
-    common_forms c.args.tracks.now (view c.args.moof.now) (view u.mfhd) (view u.traf) (view u.tfhd) (view u.tfdt) (view u.trun) c.requires (none c)
-
-pub returns-clause-values : goal.returns-clause-values
-returns-clause-values c = λ _.
-    let u = c.args.common_layout.now in
-    common_values c.args.tracks.now (view c.args.moof.now) (view u.mfhd) (view u.traf) (view u.tfhd) (view u.tfdt) (view u.trun) c.requires (none c) (omega (arith, c.sample_count.ensures, c.if-sample_count-gt-MOST_IN_MOOF.false))
-
-pub returns-clause-early : goal.returns-clause-early
-returns-clause-early c = λ _.
+pub returns-clause-sound : goal.returns-clause-sound
+returns-clause-sound c = λ moof layout _.
+    let tracks = c.args.tracks.now in
     let u = c.args.common_layout.now in
     let early : is_early (view u.tfdt) ≡ true = grind (arith, nat_tests, c.base_media_decode_time.ensures, c.if-base_media_decode_time-ge-LATE.false) in
-    common_early c.args.tracks.now (view c.args.moof.now) (view u.mfhd) (view u.traf) (view u.tfhd) (view u.tfdt) (view u.trun) c.requires (none c) early c.note_tfhd-found.ensures.ticks
+    record {
+      tree = common_tree tracks moof (view u.mfhd) (view u.traf) (view u.tfhd) (view u.tfdt) (view u.trun) layout (none c);
+      forms = common_forms tracks moof (view u.mfhd) (view u.traf) (view u.tfhd) (view u.tfdt) (view u.trun) layout (none c);
+      values = common_values tracks moof (view u.mfhd) (view u.traf) (view u.tfhd) (view u.tfdt) (view u.trun) layout (none c) (omega (arith, c.sample_count.ensures, c.if-sample_count-gt-MOST_IN_MOOF.false));
+      early = common_early tracks moof (view u.mfhd) (view u.traf) (view u.tfhd) (view u.tfdt) (view u.trun) layout (none c) early c.note_tfhd-found.ensures.ticks;
+    }

@@ -1,4 +1,4 @@
-use Rattle.std.proofs.Common.{◌≡◌, ◌∙◌, ◌+◌, ◌*◌, [], Some, ap, arith, length, refl, subst}
+use Rattle.std.proofs.Common.{◌≡◌, ◌∙◌, ◌+◌, ◌*◌, ℕ, List, [], Some, ap, arith, length, refl, subst}
 use Rattle.std.specs.List.{sum_by}
 use Rattle.mp4_frag.specs.Moofs.{moof_runs, moof_samples}
 use Rattle.mp4_frag.specs.RunLists.{taken_runs}
@@ -12,6 +12,7 @@ use Rattle.mp4_machine.specs.Puts.{HasFailed, HasPut}
 use Rattle.mp4_machine.specs.Readings.{accepts, plus}
 use Rattle.mp4_recut.specs.declared.operation.Operation.TheVariants as operations
 use Rattle.mp4_fragment_machine.specs.States.{IsCounted, listed_by, most_counted}
+use Rattle.mp4_fragment_machine.specs.Implementation.InPlace.{AreBoxes}
 use Rattle.mp4_fragment_machine.specs.Implementation.TrafLines.{moof_lines}
 use Rattle.mp4_fragment_machine.specs.declared.counter.Counter.{Counter}
 use Rattle.mp4_fragment_machine.proofs.CheckLemmas.{counted_whole}
@@ -48,9 +49,9 @@ accept-requires-clause-samples g c =
 pub accept-requires-clause-media : goal.accept-requires-clause-media
 accept-requires-clause-media g c =
     let did = c.in-Ok.ensures in
-    let are = c.requires.are in
+    let (input, are) = c.requires.are in
     let i = rw c.requires.operation at c.requires.can.counted in
-    rw did.tally (omega (arith, i.media, did.media c.args.input.now are, are.mdat.near))
+    rw did.tally (omega (arith, i.media, did.media input are, are.mdat.near))
 
 pub accept-requires-clause-steps : goal.accept-requires-clause-steps
 accept-requires-clause-steps g c =
@@ -75,31 +76,28 @@ tally g c =
 counted : (g : Over) (c : After-accept g) → let b = c.args.boxes.now in IsCounted (operations.List c.args.command) c.accept.new.counter (c.args.at + length b.moof.now + b.mdat.size) 0 (moof_samples (moof_at b.moof.now c.args.at))
 counted g c =
     let did = c.in-Ok.ensures in
-    let are = c.requires.are in
+    let (input, are) = c.requires.are in
     let b = c.args.boxes.now in
     let h = moof_at b.moof.now c.args.at in
     let samples = c.from.ensures ∙ rw did.moof at c.samples.ensures.samples in
-    counted_whole c.args.at c.args.input.now b are c.args.command c.args.carried.now.counter c.accept.new.counter (sum_by (λ (run : Run). run.bytes) (taken_runs h c.in-Some.list)) (rw c.requires.operation at c.requires.can.counted) did.few
-    (omega (arith, did.bytes, did.media c.args.input.now are))
+    counted_whole c.args.at input b are c.args.command c.args.carried.now.counter c.accept.new.counter (sum_by (λ (run : Run). run.bytes) (taken_runs h c.in-Some.list)) (rw c.requires.operation at c.requires.can.counted) did.few
+    (omega (arith, did.bytes, did.media input are))
     (tally g c)
     (omega (arith, c.accept.ensures.rows_read, did.rows_read, ap (listed_by (operations.List c.args.command)) samples))
 
 -- what was put
-text : (g : Over) (c : After-put_moof_lines g) → let b = c.args.boxes.now in
-    moof_lines c.args.command (moof_at b.moof.now c.args.at) c.in-Some.list (Some (length b.moof.now + b.mdat.size)) ≡ (accepted c.args.command (emitted c.args.at c.in-Some.list c.args.input.now b c.requires.are 1)).text
-text g c =
-    let are = c.requires.are in
+text : (g : Over) (c : After-put_moof_lines g) (input : List ℕ) (are : AreBoxes c.args.at input c.args.boxes.now) → let b = c.args.boxes.now in
+    moof_lines c.args.command (moof_at b.moof.now c.args.at) c.in-Some.list (Some (length b.moof.now + b.mdat.size)) ≡ (accepted c.args.command (emitted c.args.at c.in-Some.list input b are 1)).text
+text g c input are =
     let b = c.args.boxes.now in
-    lines_are c.args.command (emitted c.args.at c.in-Some.list c.args.input.now b are 1) _ c.requires.lists (size_stated c.args.at (length b.moof.now) _ b.mdat.size are.mdat.header.size are.mdat.sized refl)
+    lines_are c.args.command (emitted c.args.at c.in-Some.list input b are 1) _ c.requires.lists (size_stated c.args.at (length b.moof.now) _ b.mdat.size are.mdat.header.size are.mdat.sized refl)
 
 pub returns-clause-taken : goal.returns-clause-taken
-returns-clause-taken g c =
+returns-clause-taken g c = λ input are.
     let carried = c.args.carried.now in
     let list = c.in-Some.list in
     let b = c.args.boxes.now in
     let at = c.args.at in
-    let input = c.args.input.now in
-    let are = c.requires.are in
     let command = c.args.command in
     let h = moof_at b.moof.now at in
     let low = rw c.in-Some.is at c.requires.can.claim in
@@ -107,7 +105,7 @@ returns-clause-taken g c =
     let did = c.in-Ok.ensures in
     let accepts = (goal.at.returns-clause-taken g c).After-accept in
     let puts_lines = (goal.at.returns-clause-taken g c).After-put_moof_lines in
-    let put = subst (λ l. HasPut (sent g.W.Sink.contents g.W.Sink.has_failed c.args.w.now c.put_moof_lines.new.w) c.args.out.now c.put_moof_lines.new.out l []) (text g puts_lines) (rw did.moof at c.in-Ok-put_moof_lines.ensures) in
+    let put = subst (λ l. HasPut (sent g.W.Sink.contents g.W.Sink.has_failed c.args.w.now c.put_moof_lines.new.w) c.args.out.now c.put_moof_lines.new.out l []) (text g puts_lines input are) (rw did.moof at c.in-Ok-put_moof_lines.ensures) in
     let fit = boxes_fit at input b are in
     let some = some_moof at input b are in
     let long = moof_len at input b are in
@@ -122,7 +120,7 @@ returns-clause-taken g c =
       omega (arith, fit.whole),
       rw (c.in-Some.is, c.requires.operation, c.requires.empty, tracks) (record {
         step = record {
-          goes = GoesOn-emitted at list input b are did.read (did.placed c.args.input.now are) command 1 o low (g.W.Sink.contents c.put_moof_lines.new.w) c.put_moof_lines.new.out c.read_in_place.new.ledger c.accept.new.counter.tally (length b.moof.now + 64 * length (moof_runs h list)) refl account (tally g accepts) put.passes;
+          goes = GoesOn-emitted at list input b are did.read (did.placed input are) command 1 o low (g.W.Sink.contents c.put_moof_lines.new.w) c.put_moof_lines.new.out c.read_in_place.new.ledger c.accept.new.counter.tally (length b.moof.now + 64 * length (moof_runs h list)) refl account (tally g accepts) put.passes;
           unfailed = put.unfailed;
           claim = rw account (omega (arith, low, len));
         };
@@ -134,13 +132,11 @@ returns-clause-taken g c =
     )
 
 pub returns-in-Err-put_moof_lines-clause-failed : goal.returns-in-Err-put_moof_lines-clause-failed
-returns-in-Err-put_moof_lines-clause-failed g c = λ _.
+returns-in-Err-put_moof_lines-clause-failed g c = λ input are _.
     let carried = c.args.carried.now in
     let list = c.in-Some.list in
     let b = c.args.boxes.now in
     let at = c.args.at in
-    let input = c.args.input.now in
-    let are = c.requires.are in
     let command = c.args.command in
     let h = moof_at b.moof.now at in
     let low = rw c.in-Some.is at c.requires.can.claim in
@@ -148,11 +144,11 @@ returns-in-Err-put_moof_lines-clause-failed g c = λ _.
     let did = c.in-Ok.ensures in
     let accepts = (goal.at.returns-in-Err-put_moof_lines-clause-failed g c).After-accept in
     let puts_lines = (goal.at.returns-in-Err-put_moof_lines-clause-failed g c).After-put_moof_lines in
-    let put = subst (λ l. HasFailed (sent g.W.Sink.contents g.W.Sink.has_failed c.args.w.now c.put_moof_lines.new.w) c.args.out.now c.put_moof_lines.new.out l []) (text g puts_lines) (rw did.moof at c.in-Err-put_moof_lines.ensures) in
+    let put = subst (λ l. HasFailed (sent g.W.Sink.contents g.W.Sink.has_failed c.args.w.now c.put_moof_lines.new.w) c.args.out.now c.put_moof_lines.new.out l []) (text g puts_lines input are) (rw did.moof at c.in-Err-put_moof_lines.ensures) in
     let account = did.claim in
     rw (c.in-Some.is, c.requires.operation, c.requires.empty) (record {
       step = record {
-        stops = λ more. StopsAt-emitted at list input b are did.read (did.placed c.args.input.now are) command 1 o low (g.W.Sink.contents c.put_moof_lines.new.w) c.put_moof_lines.new.out c.read_in_place.new.ledger c.accept.new.counter.tally (length b.moof.now + 64 * length (moof_runs h list)) refl account (tally g accepts) more put.breaks;
+        stops = λ more. StopsAt-emitted at list input b are did.read (did.placed input are) command 1 o low (g.W.Sink.contents c.put_moof_lines.new.w) c.put_moof_lines.new.out c.read_in_place.new.ledger c.accept.new.counter.tally (length b.moof.now + 64 * length (moof_runs h list)) refl account (tally g accepts) more put.breaks;
         failed = λ _. put.failed;
         unfailed = λ other. absurd (other refl);
       };

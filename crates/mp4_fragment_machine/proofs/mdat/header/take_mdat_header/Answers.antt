@@ -1,5 +1,6 @@
-use Rattle.std.proofs.Common.{◌≡◌, ◌∙◌, ◌+◌, ◌++◌, Some, arith, refl, sym, take}
+use Rattle.std.proofs.Common.{◌≡◌, ◌∙◌, ◌+◌, ◌++◌, Some, arith, refl, rules, sym, take}
 use Rattle.mp4_machine.proofs.InputLemmas.{GoesOn-none}
+use Rattle.mp4_machine.specs.HeaderBytes.{bytes_of}
 use Rattle.mp4_machine.specs.Inputs.{environment}
 use Rattle.mp4_frag.specs.Moofs.{moof_samples}
 use Rattle.mp4_recut.specs.Operations.{operation_meaning, number_in}
@@ -39,14 +40,14 @@ pub returns-in-Ok : goal.returns-in-Ok
 returns-in-Ok g c =
     let all = c.in-Complete.ensures.0 in
     elim c.match-carried.branch [
-      | in-List w ↦ rw (w.w-is, w.out-is, w.ledger-is, w.carried-is) (all.some, all.most, GoesTo-then (accepts_mdat_header c.args.carried.now c.args.pending_moof c.requires.state.1 c.requires.can.claim all.are) (rw (c.bytes-head.ensures, sym w.begun-is ∙ c.in-Ok.is) at w.accept_listed-begun.ensures))
-      | in-Split w ↦ rw (w.w-is, w.out-is, w.ledger-is, w.carried-is) (all.some, all.most, GoesTo-then (accepts_mdat_header c.args.carried.now c.args.pending_moof c.requires.state.1 c.requires.can.claim all.are) (rw (c.bytes-head.ensures, sym w.begun-is ∙ c.in-Ok.is) at w.accept_recut-begun.ensures))
+      | in-List w ↦ rw (w.w-is, w.out-is, w.ledger-is, w.carried-is) (all.some, all.most, GoesTo-then (accepts_mdat_header c.args.carried.now c.args.pending_moof c.requires.state.1 c.requires.can.claim all.are) (rw (sym w.begun-is ∙ c.in-Ok.is) at (w.accept_listed-begun.ensures (bytes_of c.in-Complete.bytes) (search rules))))
+      | in-Split w ↦ rw (w.w-is, w.out-is, w.ledger-is, w.carried-is) (all.some, all.most, GoesTo-then (accepts_mdat_header c.args.carried.now c.args.pending_moof c.requires.state.1 c.requires.can.claim all.are) (rw (sym w.begun-is ∙ c.in-Ok.is) at (w.accept_recut-begun.ensures (bytes_of c.in-Complete.bytes) (search rules))))
     ]
 
 pub returns-in-Err : goal.returns-in-Err
 returns-in-Err g c =
     let all = c.in-Complete.ensures.0 in
     elim c.match-carried.branch [
-      | in-List w ↦ rw (w.w-is, w.out-is, w.ledger-is, w.carried-is) (StopsIn-then c.in-Complete.count c.args.input.now (accepts_mdat_header c.args.carried.now c.args.pending_moof c.requires.state.1 c.requires.can.claim all.are) (rw (c.bytes-head.ensures, sym w.begun-is ∙ c.in-Err.is) at w.accept_listed-begun.ensures))
-      | in-Split w ↦ rw (w.w-is, w.out-is, w.ledger-is, w.carried-is) (StopsIn-then c.in-Complete.count c.args.input.now (accepts_mdat_header c.args.carried.now c.args.pending_moof c.requires.state.1 c.requires.can.claim all.are) (rw (c.bytes-head.ensures, sym w.begun-is ∙ c.in-Err.is) at w.accept_recut-begun.ensures))
+      | in-List w ↦ rw (w.w-is, w.out-is, w.ledger-is, w.carried-is) (StopsIn-then c.in-Complete.count c.args.input.now (accepts_mdat_header c.args.carried.now c.args.pending_moof c.requires.state.1 c.requires.can.claim all.are) (rw (sym w.begun-is ∙ c.in-Err.is) at (w.accept_listed-begun.ensures (bytes_of c.in-Complete.bytes) (search rules))))
+      | in-Split w ↦ rw (w.w-is, w.out-is, w.ledger-is, w.carried-is) (StopsIn-then c.in-Complete.count c.args.input.now (accepts_mdat_header c.args.carried.now c.args.pending_moof c.requires.state.1 c.requires.can.claim all.are) (rw (sym w.begun-is ∙ c.in-Err.is) at (w.accept_recut-begun.ensures (bytes_of c.in-Complete.bytes) (search rules))))
     ]
