@@ -71,7 +71,7 @@ fn put_all(run: &Run, moof_bytes: &[u8], cut: &Cut, w: &mut Counter) -> Result<u
     for piece in Pieces::of(run, moof_bytes, cut) {
         number = number.saturating_add(1);
         put_moof(&piece, run, moof_bytes, number, &mut block, w)?;
-        put_mdat_header(piece.bytes.min(1 << 62), &mut block, w)?;
+        put_mdat_header(piece.plain.bytes.min(1 << 62), &mut block, w)?;
     }
     block.send(w)?;
     Ok(number)

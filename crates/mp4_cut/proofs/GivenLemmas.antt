@@ -313,9 +313,9 @@ all_drop P zero xs all = all
 all_drop P (suc n) [] all = tt
 all_drop P (suc n) (x ∷ xs) all = all_drop P n xs all.1
 
-duration_is : (moof_bytes : List ℕ) (run : Run) (p : Piece) → IsPieceOf moof_bytes run p → durations (rows_in moof_bytes run p) ≡ p.duration
+duration_is : (moof_bytes : List ℕ) (run : Run) (p : Piece) → IsPieceOf moof_bytes run p → durations (rows_in moof_bytes run p) ≡ p.plain.duration
 unfolding piece_at
-duration_is moof_bytes run p is = sym (ap (λ (q : Piece). q.duration) is.is)
+duration_is moof_bytes run p is = sym (ap (λ (q : Piece). q.plain.duration) is.is)
 
 pub can_be_read : (tracks : List Track) (moof_bytes : List ℕ) (run : Run) (p : Piece) → IsSoundRun tracks moof_bytes run → IsRunOf moof_bytes run → IsPieceOf moof_bytes run p → CanBeRead tracks (written_fragment moof_bytes run p)
 can_be_read tracks moof_bytes run p sound of is =
@@ -327,7 +327,7 @@ can_be_read tracks moof_bytes run p sound of is =
         version = sound.version;
         end = omega (arith, range.time, duration_is moof_bytes run p is);
         count = omega (arith, count_is moof_bytes run p is, is.within, of.few);
-        rows = all_take (FitsRow run.version) p.count (drop p.first (rows_of run moof_bytes)) (all_drop (FitsRow run.version) p.first (rows_of run moof_bytes) sound.rows);
+        rows = all_take (FitsRow run.version) p.plain.count (drop p.plain.first (rows_of run moof_bytes)) (all_drop (FitsRow run.version) p.plain.first (rows_of run moof_bytes) sound.rows);
       };
       track = sound.of;
       known = sound.known;

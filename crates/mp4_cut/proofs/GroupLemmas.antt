@@ -15,21 +15,22 @@ use Rattle.mp4_pieces.specs.declared.piece.Piece.{Piece}
 use Rattle.mp4_pieces.specs.Fits.{BeginsInTime, FitsIndex, FitsReference}
 use Rattle.mp4_pieces.specs.Groups.{group_length, groups, groups_from}
 use Rattle.mp4_pieces.specs.Fitting.{cut_for}
-use Rattle.mp4_pieces.specs.Pieces.{cursor_after, cut_rows, piece_at, pieces_at, pieces_from, pieces_of}
+use Rattle.mp4_pieces.specs.Pieces.{cut_rows, piece_at, pieces_at, pieces_from, pieces_of}
+use Rattle.mp4_pieces.specs.PlainPieces.{plain_end, plain_start}
 use Rattle.mp4_pieces.proofs.PieceLemmas.{goes_on}
-use Rattle.mp4_cut.specs.IndexGroups.{IsGroup, IsGroupOf, group_from, start_of}
+use Rattle.mp4_cut.specs.IndexGroups.{IsGroup, IsGroupOf, group_from}
 
 -- ---- a piece begins at the cursor from which it is found
 
 cons_is : (x y : Piece) (xs ys : List Piece) → x ∷ xs ≡ y ∷ ys → (x ≡ y) × (xs ≡ ys)
 cons_is x y xs ys e = (cc, cc)
 
-begins_by : (c : Cursor) (parts : List (List Row)) (p : Piece) (ps : List Piece) → pieces_at c parts ≡ p ∷ ps → start_of p ≡ c
+begins_by : (c : Cursor) (parts : List (List Row)) (p : Piece) (ps : List Piece) → pieces_at c parts ≡ p ∷ ps → plain_start p.plain ≡ c
 unfolding pieces_at piece_at
 begins_by c [] p ps e = absurd cc
-begins_by c (rows ∷ rest) p ps e = sym (ap start_of (cons_is (piece_at c rows) p _ ps e).0)
+begins_by c (rows ∷ rest) p ps e = sym (ap (λ (q : Piece). plain_start q.plain) (cons_is (piece_at c rows) p _ ps e).0)
 
-begins_at : (cut : Cut) (moof_bytes : List ℕ) (run : Run) (c : Cursor) (p : Piece) (ps : List Piece) → pieces_from cut moof_bytes run c ≡ p ∷ ps → start_of p ≡ c
+begins_at : (cut : Cut) (moof_bytes : List ℕ) (run : Run) (c : Cursor) (p : Piece) (ps : List Piece) → pieces_from cut moof_bytes run c ≡ p ∷ ps → plain_start p.plain ≡ c
 begins_at cut moof_bytes run c p ps e = begins_by c (cut_rows (cut_for run.timescale cut) (drop c.row (rows_of run moof_bytes))) p ps e
 
 -- ---- the groups
@@ -50,7 +51,7 @@ first_is : (cut : Cut) (moof_bytes : List ℕ) (run : Run) (c : Cursor) (n : ℕ
 first_is cut moof_bytes run c n p ps at e time fit =
     let group : List Piece = take (suc n) (p ∷ ps) in
     let start = begins_at cut moof_bytes run c p ps e in
-    let here : pieces_from cut moof_bytes run (start_of p) ≡ p ∷ ps = ap (pieces_from cut moof_bytes run) start ∙ e in
+    let here : pieces_from cut moof_bytes run (plain_start p.plain) ≡ p ∷ ps = ap (pieces_from cut moof_bytes run) start ∙ e in
     let same : group_from cut moof_bytes run p (length group) ≡ group = ap (take (length group)) here ∙ take_taken (suc n) (p ∷ ps) in (
       record {
         cursor = subst (IsCursor run moof_bytes) (sym start) at;
@@ -74,10 +75,10 @@ groups_by cut moof_bytes run zero c [] at e times fit = tt
 groups_by cut moof_bytes run (suc k) c [] at e times fit = tt
 groups_by cut moof_bytes run zero c (p ∷ ps) at e times fit =
     let next = goes_on cut moof_bytes run c p ps at e in
-    (first_group cut moof_bytes run c 65534 p ps at e times.0 fit, groups_by cut moof_bytes run 65534 (cursor_after p) ps next.cursor next.rest times.1 fit.1)
+    (first_group cut moof_bytes run c 65534 p ps at e times.0 fit, groups_by cut moof_bytes run 65534 (plain_end p.plain) ps next.cursor next.rest times.1 fit.1)
 groups_by cut moof_bytes run (suc k) c (p ∷ ps) at e times fit =
     let next = goes_on cut moof_bytes run c p ps at e in
-    groups_by cut moof_bytes run k (cursor_after p) ps next.cursor next.rest times fit.1
+    groups_by cut moof_bytes run k (plain_end p.plain) ps next.cursor next.rest times fit.1
 
 pub groups_are : (cut : Cut) (moof_bytes : List ℕ) (run : Run) → FitsIndex (pieces_of cut moof_bytes run) → AllByRecursion (IsGroupOf cut moof_bytes run) (groups (pieces_of cut moof_bytes run))
 groups_are cut moof_bytes run fits = groups_by cut moof_bytes run 0 (first_cursor run) (pieces_of cut moof_bytes run) (cursor_first run moof_bytes) refl fits.times fits.references

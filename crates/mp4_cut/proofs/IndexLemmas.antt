@@ -9,13 +9,14 @@ use Rattle.mp4_traf.specs.declared.rows.Cursor.{Cursor}
 use Rattle.mp4_pieces.specs.declared.cut.Cut.{Cut}
 use Rattle.mp4_pieces.specs.declared.piece.Piece.{Piece}
 use Rattle.mp4_pieces.specs.Pieces.{pieces_from}
+use Rattle.mp4_pieces.specs.PlainPieces.{plain_start}
 use Rattle.mp4_pieces.specs.Fits.{FitsReference}
 use Rattle.mp4_box.specs.declared.headers.Step.TheVariants.{Whole}
 use Rattle.mp4_cut.specs.Boxes.{version_and_flags}
 use Rattle.mp4_cut.specs.Reads.{IsHeaded, header_of}
 use Rattle.mp4_cut.proofs.ReadLemmas.{header_read}
 use Rattle.mp4_cut.specs.Sidx.{earliest, natural, reference_bytes, sidx, sidx_payload, written_index}
-use Rattle.mp4_cut.specs.IndexGroups.{IsGroup, group_from, start_of}
+use Rattle.mp4_cut.specs.IndexGroups.{IsGroup, group_from}
 use Rattle.mp4_cut.specs.Implementation.Fronts.{index_front}
 
 -- a reference has room for the first of some pieces, and references have room for the others
@@ -63,15 +64,15 @@ index_is run timescale first count ps begins all =
 
 -- what is put for a group, one after the other
 pub index_is_put : (cut : Cut) (moof_bytes : List ℕ) (run : Run) (timescale : ℕ) (first : Piece) (count : ℕ) (slice front : List ℕ) (at : Cursor) (ps : List Piece) → IsGroup cut moof_bytes run first count → slice ≡ front → front ≡ index_front run timescale first count
-    → at ≡ start_of first → ps ≡ pieces_from cut moof_bytes run at → slice ++ flat_map reference_bytes (take count ps) ≡ written_index run timescale (group_from cut moof_bytes run first count)
+    → at ≡ plain_start first.plain → ps ≡ pieces_from cut moof_bytes run at → slice ++ flat_map reference_bytes (take count ps) ≡ written_index run timescale (group_from cut moof_bytes run first count)
 index_is_put cut moof_bytes run timescale first count slice front at ps is a b c d =
     let group = group_from cut moof_bytes run first count in
-    let same : ps ≡ pieces_from cut moof_bytes run (start_of first) = d ∙ ap (pieces_from cut moof_bytes run) c in
+    let same : ps ≡ pieces_from cut moof_bytes run (plain_start first.plain) = d ∙ ap (pieces_from cut moof_bytes run) c in
     ap (λ (x : List ℕ). x ++ flat_map reference_bytes (take count ps)) (a ∙ b)
     ∙ (ap (λ (qs : List Piece). index_front run timescale first count ++ flat_map reference_bytes (take count qs)) same
     ∙ sym (index_is run timescale first count group is.begins is.all))
 
-pub room_is : (cut : Cut) (moof_bytes : List ℕ) (run : Run) (first : Piece) (count : ℕ) (at : Cursor) (ps : List Piece) → IsGroup cut moof_bytes run first count → at ≡ start_of first → ps ≡ pieces_from cut moof_bytes run at → AllByRecursion FitsReference (take count ps)
+pub room_is : (cut : Cut) (moof_bytes : List ℕ) (run : Run) (first : Piece) (count : ℕ) (at : Cursor) (ps : List Piece) → IsGroup cut moof_bytes run first count → at ≡ plain_start first.plain → ps ≡ pieces_from cut moof_bytes run at → AllByRecursion FitsReference (take count ps)
 room_is cut moof_bytes run first count at ps is c d =
     subst (λ (qs : List Piece). AllByRecursion FitsReference (take count qs)) (sym (d ∙ ap (pieces_from cut moof_bytes run) c)) is.references
 

@@ -21,26 +21,25 @@ use Rattle.mp4_cut.specs.Tfhd.{tfhd_payload}
 use Rattle.mp4_cut.specs.Tfdt.{tfdt_payload}
 use Rattle.mp4_cut.specs.Trun.{sample_bytes, trun_flags}
 use Rattle.mp4_cut.specs.Implementation.Fronts.{moof_front}
-use Rattle.mp4_cut.specs.IndexGroups.{start_of}
 use Rattle.mp4_cut.specs.Moof.{data_offset, written_fragment, in_moof, in_traf, written_moof}
 use Rattle.mp4_cut.proofs.MoofLemmas.{length_in_moof, length_traf, length_trun, trun_of}
 use Rattle.mp4_cut.proofs.RunLemmas.{moof_is_front}
 
-pub start_is : (moof_bytes : List ℕ) (run : Run) (p : Piece) → IsPieceOf moof_bytes run p → IsCursor run moof_bytes (start_of p)
+pub start_is : (moof_bytes : List ℕ) (run : Run) (p : Piece) → IsPieceOf moof_bytes run p → IsCursor run moof_bytes (plain_start p.plain)
 unfolding piece_at
 start_is moof_bytes run p is = record {
   row = omega (arith, is.within);
-  time = ap (λ (q : Piece). q.time) is.is;
-  place = ap (λ (q : Piece). q.place) is.is;
+  time = ap (λ (q : Piece). q.plain.time) is.is;
+  place = ap (λ (q : Piece). q.plain.place) is.is;
 }
 
-pub count_is : (moof_bytes : List ℕ) (run : Run) (p : Piece) → IsPieceOf moof_bytes run p → length (rows_in moof_bytes run p) ≡ p.count
+pub count_is : (moof_bytes : List ℕ) (run : Run) (p : Piece) → IsPieceOf moof_bytes run p → length (rows_in moof_bytes run p) ≡ p.plain.count
 unfolding piece_at
-count_is moof_bytes run p is = sym (ap (λ (q : Piece). q.count) is.is)
+count_is moof_bytes run p is = sym (ap (λ (q : Piece). q.plain.count) is.is)
 
-pub bytes_are : (moof_bytes : List ℕ) (run : Run) (p : Piece) → IsPieceOf moof_bytes run p → sizes (rows_in moof_bytes run p) ≡ p.bytes
+pub bytes_are : (moof_bytes : List ℕ) (run : Run) (p : Piece) → IsPieceOf moof_bytes run p → sizes (rows_in moof_bytes run p) ≡ p.plain.bytes
 unfolding piece_at
-bytes_are moof_bytes run p is = sym (ap (λ (q : Piece). q.bytes) is.is)
+bytes_are moof_bytes run p is = sym (ap (λ (q : Piece). q.plain.bytes) is.is)
 
 -- a front by the numbers in it
 abbrev front_by : Run → PlainPiece → ℕ → ℕ → ℕ → ℕ → ℕ → ℕ → List ℕ

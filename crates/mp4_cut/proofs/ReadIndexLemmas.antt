@@ -42,14 +42,14 @@ module _ (moof_bytes : List ℕ) (run : Run) where
       let bytes = bytes_are moof_bytes run p is in
       omega (arith, length_moof (written_fragment moof_bytes run p) number, count_is moof_bytes run p is, length_mdat (sizes (rows_in moof_bytes run p)), bytes, ap mdat_header_size bytes)
 
-  duration_is : (p : Piece) → IsPieceOf moof_bytes run p → p.duration ≡ durations (rows_in moof_bytes run p)
+  duration_is : (p : Piece) → IsPieceOf moof_bytes run p → p.plain.duration ≡ durations (rows_in moof_bytes run p)
   unfolding piece_at
-  duration_is p is = ap (λ (q : Piece). q.duration) is.is
+  duration_is p is = ap (λ (q : Piece). q.plain.duration) is.is
 
-  least_is : (p : Piece) → IsPieceOf moof_bytes run p → p.least ≡ least_of (composition_times p.time (rows_in moof_bytes run p))
+  least_is : (p : Piece) → IsPieceOf moof_bytes run p → p.least ≡ least_of (composition_times p.plain.time (rows_in moof_bytes run p))
   unfolding piece_at
   least_is p is =
-      let time : (cursor_at moof_bytes run p.first).time ≡ p.time = sym (ap (λ (q : Piece). q.time) is.is) in
+      let time : (cursor_at moof_bytes run p.plain.first).time ≡ p.plain.time = sym (ap (λ (q : Piece). q.plain.time) is.is) in
       ap (λ (q : Piece). q.least) is.is ∙ ap (λ (t : ℕ). least_of (composition_times t (rows_in moof_bytes run p))) time
 
   references_back : (number : ℕ) (ps : List Piece) → AllByRecursion (IsPieceOf moof_bytes run) ps → AllByRecursion FitsReference ps → references_in (length ps) (flat_map reference_bytes ps) ≡ map (reference_to moof_bytes run number) ps
@@ -58,8 +58,8 @@ module _ (moof_bytes : List ℕ) (run : Run) where
       let rest = flat_map reference_bytes ps in
       let size = fragment_size p in
       same_references _ _ _ _ _ _ _ _
-      (big_number-reads_back 4 size ((big_bytes 4 p.duration ++ big_bytes 4 0) ++ rest) (omega (arith, fits.0.size)) ∙ size_is p number is.0)
-      (big_number-reads_back 4 p.duration (big_bytes 4 0 ++ rest) (omega (arith, fits.0.duration)) ∙ duration_is p is.0)
+      (big_number-reads_back 4 size ((big_bytes 4 p.plain.duration ++ big_bytes 4 0) ++ rest) (omega (arith, fits.0.size)) ∙ size_is p number is.0)
+      (big_number-reads_back 4 p.plain.duration (big_bytes 4 0 ++ rest) (omega (arith, fits.0.duration)) ∙ duration_is p is.0)
       (big_number-reads_back 4 0 rest (omega arith))
       (references_back number ps is.1 fits.1)
 

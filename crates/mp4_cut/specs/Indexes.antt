@@ -78,7 +78,7 @@ pub record IsIndexReadAs (moof_bytes : List ℕ) (run : Run) (given sequence_num
   pub flags : x.flags ≡ 0
   pub track : x.track ≡ run.track
   pub timescale : x.timescale ≡ given
-  pub earliest : pos x.earliest ≡ least_of (composition_times p.time (rows_in moof_bytes run p))
+  pub earliest : pos x.earliest ≡ least_of (composition_times p.plain.time (rows_in moof_bytes run p))
   pub offset : x.first_offset ≡ 0
   pub reserved : x.reserved ≡ 0
   pub references : x.references ≡ map (reference_to moof_bytes run sequence_number) (p ∷ ps)

@@ -43,7 +43,7 @@ moof_box f sequence_number = box_bytes moof (in_moof f sequence_number)
 
 -- the fragment of a piece has its rows, and what all rows of its run share
 abbrev pub written_fragment : List ℕ → Run → Piece → WrittenFragment
-written_fragment moof_bytes run piece = record { track = run.track; entry = run.entry; version = run.version; time = piece.time; rows = rows_in moof_bytes run piece }
+written_fragment moof_bytes run piece = record { track = run.track; entry = run.entry; version = run.version; time = piece.plain.time; rows = rows_in moof_bytes run piece }
 
 -- the moof of a piece
 abbrev pub written_moof : Piece → Run → List ℕ → ℕ → List ℕ

@@ -26,7 +26,7 @@ earliest (piece ∷ pieces) = natural piece.least
 -- subsegment_duration (32 bits), its durations added up; starts_with_SAP, SAP_type and SAP_delta_time 0 (1, 3, 28
 -- bits)
 abbrev pub reference_bytes : Piece → List ℕ
-reference_bytes piece = big_bytes 4 (fragment_size piece) ++ (big_bytes 4 piece.duration ++ big_bytes 4 0)
+reference_bytes piece = big_bytes 4 (fragment_size piece) ++ (big_bytes 4 piece.plain.duration ++ big_bytes 4 0)
 
 -- reference_ID and timescale (32 bits each), earliest_presentation_time and first_offset 0 (64 bits each at version
 -- 1), reserved 0 and reference_count (16 bits each), and the references

@@ -37,7 +37,7 @@ ghost use Rattle.mp4_cut.specs.IndexGroups.{IsGroupOf};
 pub fn sizes()
     ensures moof { (piece : Piece) (run : Run) (moof_bytes : List ℕ) (sequence_number : ℕ) →
         IsPieceOf moof_bytes run piece →
-        length (written_moof piece run moof_bytes sequence_number) ≡ moof_size piece.count }
+        length (written_moof piece run moof_bytes sequence_number) ≡ moof_size piece.plain.count }
     ensures mdat { (bytes : ℕ) → length (mdat_header bytes) ≡ mdat_header_size bytes }
     ensures index { (run : Run) (timescale : ℕ) (pieces : List Piece) →
         length (written_index run timescale pieces) ≡ 40 + 12 * length pieces }

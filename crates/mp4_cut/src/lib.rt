@@ -12,11 +12,11 @@
 //!
 //! Each box that is written has a file in `specs/`, with its fields by the standard's names in their
 //! order: mfhd, tfhd, tfdt, trun, moof, mdat, sidx. Here `moof.rt` writes a moof as far as its samples,
-//! `trun.rt` those, and `mdat.rt` and `sidx.rt` their boxes, from the fields of `fields.rt`. `start.rt` says where
-//! a piece begins in its run, and `write_fault.rt` why something wasn't written. `specs/Boxes.antt`
-//! says how any box is written, `specs/IndexGroups.antt` where pieces and groups begin, and `specs/Reads.antt`
-//! and `specs/Indexes.antt` what is read again. `specs/Implementation/Fronts.antt` says how a moof and an index are
-//! computed. What a call does to a block and a sink is `Puts` and `Writes` of `mp4_machine`.
+//! `trun.rt` those, and `mdat.rt` and `sidx.rt` their boxes, from the fields of `fields.rt`. `write_fault.rt`
+//! says why something wasn't written. `specs/Boxes.antt` says how any box is written, `specs/IndexGroups.antt`
+//! for which pieces an index is, and `specs/Reads.antt` and `specs/Indexes.antt` what is read again.
+//! `specs/Implementation/Fronts.antt` says how a moof and an index are computed. What a call does to a block
+//! and a sink is `Puts` and `Writes` of `mp4_machine`.
 #![tactic(auto)]
 
 mod fields;
@@ -24,7 +24,6 @@ pub mod laws;
 mod mdat;
 mod moof;
 mod sidx;
-mod start;
 mod trun;
 mod write_fault;
 

@@ -82,14 +82,7 @@ pub fn put_moof<W: Sink>(
     ensures { Puts (sent W.contents W.has_failed w.old w.new) block.old block.new
         (written_moof piece.now run.now moof_bytes.now sequence_number) result }
 {
-    put_plain_moof(
-        &PlainPiece::of(piece),
-        run,
-        moof_bytes,
-        sequence_number,
-        block,
-        w,
-    )
+    put_plain_moof(&piece.plain, run, moof_bytes, sequence_number, block, w)
 }
 
 /// As [`put_moof`], of a piece without its least composition time, which no moof has.

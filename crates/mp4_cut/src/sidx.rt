@@ -13,7 +13,6 @@ ghost use Rattle.mp4_cut.specs.Sidx.{natural, reference_bytes, written_index};
 ghost use Rattle.mp4_cut.specs.IndexGroups.{IsGroup, group_from};
 
 use crate::fields::Fields;
-use crate::start::start_of;
 use crate::write_fault::WriteFault;
 use byteorder::{BigEndian, ByteOrder};
 use mp4_box::types::SIDX;
@@ -55,7 +54,7 @@ fn reference_bytes(piece: &Piece) -> [u8; 12]
 {
     let mut bytes = [0; 12];
     BigEndian::write_u32(&mut bytes[..4], fragment_size(piece) as u32);
-    BigEndian::write_u32(&mut bytes[4..8], piece.duration as u32);
+    BigEndian::write_u32(&mut bytes[4..8], piece.plain.duration as u32);
     bytes
 }
 
@@ -125,7 +124,7 @@ pub fn put_index<W: Sink>(
         Ok(()) => {}
         Err(Failed) => return Err(Failed),
     }
-    let mut pieces = Pieces::at(run, moof_bytes, cut, start_of(first));
+    let mut pieces = Pieces::at(run, moof_bytes, cut, first.plain.cursor());
     put_references(block, w, &mut pieces, count)
 }
 

@@ -63,12 +63,12 @@ below_long n e = let h = ltb-false 4294967295 n e in omega (arith, h)
 
 fits_reference : (p : Piece) → passes_reference p ≡ false → FitsReference p
 fits_reference p e =
-    let both = or_is (nat_lt 2147483647 (fragment_size p)) (nat_lt 4294967295 p.duration) e in
-    record { size = below (fragment_size p) both.0; duration = below_long p.duration both.1 }
+    let both = or_is (nat_lt 2147483647 (fragment_size p)) (nat_lt 4294967295 p.plain.duration) e in
+    record { size = below (fragment_size p) both.0; duration = below_long p.plain.duration both.1 }
 
 reference_fits : (p : Piece) → FitsReference p → passes_reference p ≡ false
 reference_fits p fit =
-    or_so (nat_lt 2147483647 (fragment_size p)) (nat_lt 4294967295 p.duration) (low (fragment_size p) fit.size) (high p.duration fit.duration)
+    or_so (nat_lt 2147483647 (fragment_size p)) (nat_lt 4294967295 p.plain.duration) (low (fragment_size p) fit.size) (high p.plain.duration fit.duration)
   where
     low : (n : ℕ) → n < 2147483648 → nat_lt 2147483647 n ≡ false
     low n h = le-ltb 2147483647 n (omega (arith, h))

@@ -17,7 +17,8 @@ use Rattle.mp4_pieces.specs.declared.piece.Piece.{Piece}
 use Rattle.mp4_pieces.specs.Cutting.{cut_by, cut_from}
 use Rattle.mp4_traf.specs.SyncSamples.{is_sync}
 use Rattle.mp4_pieces.specs.Fitting.{fits, fits_bytes, fits_keyframes, fits_sync, fits_ticks, no_start}
-use Rattle.mp4_pieces.specs.Pieces.{cursor_after, cut_rows, past_rows, piece_at, pieces_at}
+use Rattle.mp4_pieces.specs.Pieces.{cut_rows, past_rows, piece_at, pieces_at}
+use Rattle.mp4_pieces.specs.PlainPieces.{plain_end}
 use Rattle.mp4_pieces.specs.Implementation.Growing.{Grows, grown, has_bytes, has_ticks, opened, pieces_left, takes, with_row}
 use Rattle.mp4_pieces.specs.Implementation.Counting.{IsPlain}
 use Rattle.mp4_traf.specs.Cursors.{HasRoom}
@@ -71,7 +72,7 @@ unfolding piece_at with_row
 with_row_is c x rows row =
     rw (length-append (x ∷ rows) (row ∷ []), sizes-more (x ∷ rows) row, durations-more (x ∷ rows) row, least_time c.time x rows row) refl
 
-pub after_is : (c : Cursor) (rows : List Row) → cursor_after (piece_at c rows) ≡ past_rows c rows
+pub after_is : (c : Cursor) (rows : List Row) → plain_end (piece_at c rows).plain ≡ past_rows c rows
 unfolding piece_at
 after_is c rows = refl
 
@@ -197,15 +198,15 @@ with_row_grows p row rows h =
     let d = durations-cons row rows in
     let r = h.row in
     let t = h.time in
-    let n : p.bytes + sizes (row ∷ rows) ≡ p.bytes + row.size + sizes rows = omega (arith, s) in
-    record { row = omega (arith, r); time = omega (arith, d, t); low = h.low; high = subst (λ (n : ℕ). (p.place +ℤ pos n) <ℤ pos (2 ^ 63)) n h.high }
+    let n : p.plain.bytes + sizes (row ∷ rows) ≡ p.plain.bytes + row.size + sizes rows = omega (arith, s) in
+    record { row = omega (arith, r); time = omega (arith, d, t); low = h.low; high = subst (λ (n : ℕ). (p.plain.place +ℤ pos n) <ℤ pos (2 ^ 63)) n h.high }
 
-pub after_has_room : (p : Piece) (rows : List Row) → Grows p rows → HasRoom (cursor_after p) rows
+pub after_has_room : (p : Piece) (rows : List Row) → Grows p rows → HasRoom (plain_end p.plain) rows
 after_has_room p rows h = record {
   row = h.row;
   time = h.time;
-  low = low_on p.place p.bytes h.low;
-  high = high_on p.place p.bytes (sizes rows) h.high;
+  low = low_on p.plain.place p.plain.bytes h.low;
+  high = high_on p.plain.place p.plain.bytes (sizes rows) h.high;
 }
   where
     low_on : (z : ℤ) (n : ℕ) → pos 0 ≤ℤ (z +ℤ pos (2 ^ 31)) → pos 0 ≤ℤ ((z +ℤ pos n) +ℤ pos (2 ^ 31))
@@ -221,7 +222,7 @@ unfolding grown
 grown_takes cut p last row rows e = rw e refl
 
 -- a piece that has as many samples as it may has no more
-pub grown_full : (cut : Cut) (p : Piece) (last : Bool) (rows : List Row) → nat_lt p.count cut.samples ≡ false → grown cut p last rows ≡ p ∷ pieces_left cut (cursor_after p) rows
+pub grown_full : (cut : Cut) (p : Piece) (last : Bool) (rows : List Row) → nat_lt p.plain.count cut.samples ≡ false → grown cut p last rows ≡ p ∷ pieces_left cut (plain_end p.plain) rows
 unfolding grown pieces_left takes
 grown_full cut p last [] e = refl
 grown_full cut p last (row ∷ rows) e = rw e refl
@@ -234,7 +235,7 @@ not_less n m h = by (nat_lt n m) refl
     by false e = e
 
 -- where no row is left, the piece is the last
-pub grown_none : (cut : Cut) (p : Piece) (last : Bool) (rows rest : List Row) → rows ≡ [] → rest ≡ [] → grown cut p last rows ≡ p ∷ pieces_left cut (cursor_after p) rest
+pub grown_none : (cut : Cut) (p : Piece) (last : Bool) (rows rest : List Row) → rows ≡ [] → rest ≡ [] → grown cut p last rows ≡ p ∷ pieces_left cut (plain_end p.plain) rest
 unfolding grown pieces_left
 grown_none cut p last rows rest none done = rw (none, done) refl
 
@@ -244,9 +245,9 @@ pub no_limits : (t : Bool) → (t && (true && (true && (true && true)))) ≡ t
 no_limits true = refl
 no_limits false = refl
 
-takes_plain : (cut : Cut) (p : Piece) (last : Bool) (row : Row) → IsPlain cut → takes cut p last row ≡ nat_lt p.count cut.samples
+takes_plain : (cut : Cut) (p : Piece) (last : Bool) (row : Row) → IsPlain cut → takes cut p last row ≡ nat_lt p.plain.count cut.samples
 unfolding takes
-takes_plain cut p last row is = rw (is.bytes, is.ticks, is.sync, is.keyframes) (no_limits (nat_lt p.count cut.samples))
+takes_plain cut p last row is = rw (is.bytes, is.ticks, is.sync, is.keyframes) (no_limits (nat_lt p.plain.count cut.samples))
 
 -- then it doesn't matter whether the last row is a sync sample
 pub grown_any : (cut : Cut) (p : Piece) (last other : Bool) (rows : List Row) → IsPlain cut → grown cut p last rows ≡ grown cut p other rows
@@ -254,7 +255,7 @@ unfolding grown
 grown_any cut p last other [] is = refl
 grown_any cut p last other (row ∷ rows) is = rw (takes_plain cut p last row is, takes_plain cut p other row is) refl
 
-pub grown_more : (cut : Cut) (p : Piece) (last : Bool) (row : Row) (rows : List Row) → IsPlain cut → nat_lt p.count cut.samples ≡ true → grown cut p last (row ∷ rows) ≡ grown cut (with_row p row) last rows
+pub grown_more : (cut : Cut) (p : Piece) (last : Bool) (row : Row) (rows : List Row) → IsPlain cut → nat_lt p.plain.count cut.samples ≡ true → grown cut p last (row ∷ rows) ≡ grown cut (with_row p row) last rows
 grown_more cut p last row rows is more =
     grown_takes cut p last row rows (takes_plain cut p last row is ∙ more)
     ∙ grown_any cut (with_row p row) (is_sync row.flags) last rows is

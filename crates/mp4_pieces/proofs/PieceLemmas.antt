@@ -18,7 +18,8 @@ use Rattle.mp4_pieces.specs.declared.cut.Cut.{Cut}
 use Rattle.mp4_pieces.specs.declared.piece.Piece.{Piece}
 use Rattle.mp4_pieces.specs.Cutting.{ArePieces, join}
 use Rattle.mp4_pieces.specs.Fitting.{cut_for, fits}
-use Rattle.mp4_pieces.specs.Pieces.{EndsInRange, IsPieceOf, cursor_after, cursor_at, cut_rows, past_rows, piece_at, pieces_at, pieces_from, pieces_of, rows_in}
+use Rattle.mp4_pieces.specs.Pieces.{IsPieceOf, cursor_at, cut_rows, past_rows, piece_at, pieces_at, pieces_from, pieces_of, rows_in}
+use Rattle.mp4_pieces.specs.PlainPieces.{EndsInRange, plain_end}
 use Rattle.mp4_traf.specs.Ranges.{IsRunOf}
 use Rattle.mp4_pieces.specs.Laws.{IsFollowedBy}
 use Rattle.mp4_pieces.proofs.CutLemmas.{pieces_are, pieces_only}
@@ -127,7 +128,7 @@ all_pieces : (cut : Cut) (moof_bytes : List ℕ) (run : Run) (ps : List Piece) (
 all_pieces cut moof_bytes run [] c at e = tt
 all_pieces cut moof_bytes run (p ∷ ps) c at e =
     let next = goes_on cut moof_bytes run c p ps at e in
-    (next.piece, all_pieces cut moof_bytes run ps (cursor_after p) next.cursor next.rest)
+    (next.piece, all_pieces cut moof_bytes run ps (plain_end p.plain) next.cursor next.rest)
 
 pub pieces_are_of : (cut : Cut) (moof_bytes : List ℕ) (run : Run) → AllByRecursion (IsPieceOf moof_bytes run) (pieces_of cut moof_bytes run)
 pieces_are_of cut moof_bytes run = all_pieces cut moof_bytes run (pieces_of cut moof_bytes run) (first_cursor run) (cursor_first run moof_bytes) refl
@@ -137,7 +138,7 @@ pieces_are_of cut moof_bytes run = all_pieces cut moof_bytes run (pieces_of cut 
 high_on : (z y : ℤ) (n m all : ℕ) → y ≡ z +ℤ pos n → n + m ≤ all → (z +ℤ pos all) <ℤ pos (2 ^ 63) → (y +ℤ pos m) <ℤ pos (2 ^ 63)
 high_on z y n m all e sum h = omega (arith, ints, e, sum, h)
 
-ends_at : (moof_bytes : List ℕ) (run : Run) (i n : ℕ) → IsRunOf moof_bytes run → i + n ≤ run.count → EndsInRange (piece_at (cursor_at moof_bytes run i) (take n (drop i (rows_of run moof_bytes))))
+ends_at : (moof_bytes : List ℕ) (run : Run) (i n : ℕ) → IsRunOf moof_bytes run → i + n ≤ run.count → EndsInRange (piece_at (cursor_at moof_bytes run i) (take n (drop i (rows_of run moof_bytes)))).plain
 unfolding piece_at
 ends_at moof_bytes run i n of within =
     let rows : List Row = rows_of run moof_bytes in
@@ -156,8 +157,8 @@ ends_at moof_bytes run i n of within =
       place = high_on run.place (run.place +ℤ pos (sizes (take i rows))) (sizes (take i rows)) (sizes (take n (drop i rows))) run.bytes refl (omega (arith, bytes, size, more_size)) of.range.high;
     }
 
-pub piece_ends : (moof_bytes : List ℕ) (run : Run) (p : Piece) → IsRunOf moof_bytes run → IsPieceOf moof_bytes run p → EndsInRange p
-piece_ends moof_bytes run p of is = subst EndsInRange (sym is.is) (ends_at moof_bytes run p.first p.count of is.within)
+pub piece_ends : (moof_bytes : List ℕ) (run : Run) (p : Piece) → IsRunOf moof_bytes run → IsPieceOf moof_bytes run p → EndsInRange p.plain
+piece_ends moof_bytes run p of is = subst (λ (q : Piece). EndsInRange q.plain) (sym is.is) (ends_at moof_bytes run p.plain.first p.plain.count of is.within)
 
 -- ---- the least composition time
 
@@ -165,14 +166,14 @@ least_at : (c : Cursor) (rows : List Row) → 0 < length rows → IsLeastOf (com
 unfolding piece_at
 least_at c rows h = least_of_all (composition_times c.time rows) (omega (arith, h, length_times c.time rows))
 
-pub least_is : (moof_bytes : List ℕ) (run : Run) (p : Piece) → IsPieceOf moof_bytes run p → IsLeastOf (composition_times p.time (rows_in moof_bytes run p)) p.least
+pub least_is : (moof_bytes : List ℕ) (run : Run) (p : Piece) → IsPieceOf moof_bytes run p → IsLeastOf (composition_times p.plain.time (rows_in moof_bytes run p)) p.least
 unfolding piece_at
 least_is moof_bytes run p is =
-    let c : Cursor = cursor_at moof_bytes run p.first in
+    let c : Cursor = cursor_at moof_bytes run p.plain.first in
     let rows : List Row = rows_in moof_bytes run p in
     let some = is.some in
     let within = is.within in
-    let time : p.time ≡ c.time = ap (λ (x : Piece). x.time) is.is in
+    let time : p.plain.time ≡ c.time = ap (λ (x : Piece). x.plain.time) is.is in
     let least : p.least ≡ (piece_at c rows).least = ap (λ (x : Piece). x.least) is.is in
-    let len : 0 < length rows = omega (arith, some, within, length-take p.count (drop p.first (rows_of run moof_bytes)), length-drop p.first (rows_of run moof_bytes), length_rows_of run moof_bytes) in
+    let len : 0 < length rows = omega (arith, some, within, length-take p.plain.count (drop p.plain.first (rows_of run moof_bytes)), length-drop p.plain.first (rows_of run moof_bytes), length_rows_of run moof_bytes) in
     subst (λ (t : ℕ). IsLeastOf (composition_times t rows) p.least) (sym time) (subst (IsLeastOf (composition_times c.time rows)) (sym least) (least_at c rows len))

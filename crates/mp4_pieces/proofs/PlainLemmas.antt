@@ -21,8 +21,8 @@ use Rattle.mp4_pieces.specs.Cutting.{IsLimit, cut_by, cut_from, join}
 use Rattle.mp4_pieces.specs.Fitting.{cut_for, fits}
 use Rattle.mp4_pieces.specs.Implementation.Counting.{CutsAs, IsFirst, LastsWithin}
 use Rattle.mp4_pieces.specs.Bounds.{IsCounted, IsTimed, LastsAs}
-use Rattle.mp4_pieces.specs.Pieces.{IsPieceOf, cursor_after, cursor_at, cut_rows, past_rows, piece_at, pieces_at, pieces_from, rows_in}
-use Rattle.mp4_pieces.specs.PlainPieces.{piece_of, plain_at, plain_end, plain_of}
+use Rattle.mp4_pieces.specs.Pieces.{IsPieceOf, cursor_at, cut_rows, past_rows, piece_at, pieces_at, pieces_from, rows_in}
+use Rattle.mp4_pieces.specs.PlainPieces.{piece_of, plain_at, plain_end}
 use Rattle.mp4_pieces.proofs.CutLemmas.{pieces_are}
 use Rattle.mp4_pieces.proofs.FitLemmas.{and_is, and_so, is_limit}
 use Rattle.mp4_pieces.proofs.WhatFitsLemmas.{or_either, or_so}
@@ -31,25 +31,25 @@ use Rattle.mp4_pieces.proofs.PieceLemmas.{goes_on}
 
 -- ---- a piece without its least composition time
 
-pub plain_is : (moof_bytes : List ℕ) (run : Run) (p : Piece) → IsPieceOf moof_bytes run p → piece_of moof_bytes run (plain_of p) ≡ p
+pub plain_is : (moof_bytes : List ℕ) (run : Run) (p : Piece) → IsPieceOf moof_bytes run p → piece_of moof_bytes run p.plain ≡ p
 unfolding piece_at
 plain_is moof_bytes run p is =
     let rows : List Row = rows_in moof_bytes run p in
-    let c : Cursor = cursor_at moof_bytes run p.first in
-    let time : p.time ≡ c.time = ap (λ (x : Piece). x.time) is.is in
+    let c : Cursor = cursor_at moof_bytes run p.plain.first in
+    let time : p.plain.time ≡ c.time = ap (λ (x : Piece). x.plain.time) is.is in
     let least : p.least ≡ least_of (composition_times c.time rows) = ap (λ (x : Piece). x.least) is.is in
-    let same : least_of (composition_times p.time rows) ≡ p.least = ap (λ (t : ℕ). least_of (composition_times t rows)) time ∙ sym least in
+    let same : least_of (composition_times p.plain.time rows) ≡ p.least = ap (λ (t : ℕ). least_of (composition_times t rows)) time ∙ sym least in
     with_least same
   where
-    with_least : {z : ℤ} → z ≡ p.least → record { first = p.first; count = p.count; time = p.time; place = p.place; bytes = p.bytes; duration = p.duration; least = z } ≡ p
+    with_least : {z : ℤ} → z ≡ p.least → record { plain = p.plain; least = z } ≡ p
     with_least e = rw e refl
 
 -- what is found of a piece holds of it without its least composition time
 pub plain_first : (cut : Cut) (moof_bytes : List ℕ) (run : Run) (c : Cursor) (p : Piece) (ps : List Piece) → IsCursor run moof_bytes c → pieces_from cut moof_bytes run c ≡ p ∷ ps
-    → pieces_from cut moof_bytes run c ≡ piece_of moof_bytes run (plain_of p) ∷ pieces_from cut moof_bytes run (plain_end (plain_of p))
+    → pieces_from cut moof_bytes run c ≡ piece_of moof_bytes run p.plain ∷ pieces_from cut moof_bytes run (plain_end p.plain)
 plain_first cut moof_bytes run c p ps at e =
     let next = goes_on cut moof_bytes run c p ps at e in
-    e ∙ ap (λ (x : Piece). x ∷ ps) (sym (plain_is moof_bytes run p next.piece)) ∙ ap (λ (xs : List Piece). piece_of moof_bytes run (plain_of p) ∷ xs) (sym next.rest)
+    e ∙ ap (λ (x : Piece). x ∷ ps) (sym (plain_is moof_bytes run p next.piece)) ∙ ap (λ (xs : List Piece). piece_of moof_bytes run p.plain ∷ xs) (sym next.rest)
 
 at_none : (c : Cursor) (q : List (List Row)) → pieces_at c q ≡ [] → q ≡ []
 unfolding pieces_at
@@ -218,7 +218,7 @@ piece_is moof_bytes run c count bytes ticks q same len size ticks_are = rw (same
 
 -- a piece of these samples, and those after it
 followed_by : (cut : Cut) (moof_bytes : List ℕ) (run : Run) (c : Cursor) (x : Piece) (q : List Row) (rest : List (List Row)) → IsCursor run moof_bytes c → cut_rows (cut_for run.timescale cut) (drop c.row (rows_of run moof_bytes)) ≡ q ∷ rest → x ≡ piece_at c q
-    → pieces_from cut moof_bytes run c ≡ x ∷ pieces_from cut moof_bytes run (cursor_after x)
+    → pieces_from cut moof_bytes run c ≡ x ∷ pieces_from cut moof_bytes run (plain_end x.plain)
 unfolding pieces_at
 followed_by cut moof_bytes run c x q rest at found is =
     let ps : List Piece = pieces_at (past_rows c q) rest in

@@ -17,7 +17,7 @@ use Rattle.mp4_pieces.proofs.WhatFitsLemmas.{fits_means}
 
 -- a piece of more than one sample lasts at most so many ticks
 abbrev pub IsShort : ℕ → Piece → Type 0
-IsShort most p = 1 < p.count → p.duration ≤ most
+IsShort most p = 1 < p.plain.count → p.plain.duration ≤ most
 
 short_at : (own : Cut) (most : ℕ) (c : Cursor) (q : List (List Row)) → own.ticks ≡ Some most → AllByRecursion (λ (rows : List Row). fits own rows ≡ true) q → AllByRecursion (IsShort most) (pieces_at c q)
 unfolding pieces_at piece_at
@@ -36,11 +36,11 @@ all_short cut moof_bytes run millis is =
 rounded : (d n : ℕ) → d ≤ n / 1000 → 1000 * d ≤ n
 rounded d n h = omega (arith, h)
 
-in_time : (n : ℕ) (ps : List Piece) → AllByRecursion (IsShort (n / 1000)) ps → AllByRecursion (λ (p : Piece). 1 < p.count → 1000 * p.duration ≤ n) ps
+in_time : (n : ℕ) (ps : List Piece) → AllByRecursion (IsShort (n / 1000)) ps → AllByRecursion (λ (p : Piece). 1 < p.plain.count → 1000 * p.plain.duration ≤ n) ps
 in_time n [] all = tt
-in_time n (p ∷ ps) all = (λ more. rounded p.duration n (all.0 more), in_time n ps all.1)
+in_time n (p ∷ ps) all = (λ more. rounded p.plain.duration n (all.0 more), in_time n ps all.1)
 
-pub all_in_time : (cut : Cut) (moof_bytes : List ℕ) (run : Run) (millis : ℕ) → cut.duration ≡ Some millis → AllByRecursion (λ (p : Piece). 1 < p.count → 1000 * p.duration ≤ millis * run.timescale) (pieces_of cut moof_bytes run)
+pub all_in_time : (cut : Cut) (moof_bytes : List ℕ) (run : Run) (millis : ℕ) → cut.duration ≡ Some millis → AllByRecursion (λ (p : Piece). 1 < p.plain.count → 1000 * p.plain.duration ≤ millis * run.timescale) (pieces_of cut moof_bytes run)
 all_in_time cut moof_bytes run millis is = in_time (millis * run.timescale) (pieces_of cut moof_bytes run) (all_short cut moof_bytes run millis is)
 
 pub without_time : (cut : Cut) (timescale : ℕ) (rows : List Row) → cut.duration ≡ None → cut.ticks ≡ None → cut_rows (cut_for timescale cut) rows ≡ cut_rows cut rows

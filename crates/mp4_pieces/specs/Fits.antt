@@ -13,7 +13,7 @@ use Rattle.mp4_pieces.specs.Sizes.{fragment_size}
 -- a reference has room for a piece: its moof and its mdat, and its duration
 pub record FitsReference (p : Piece) : Type 0 where
   pub size : fragment_size p < 2 ^ 31
-  pub duration : p.duration < 2 ^ 32
+  pub duration : p.plain.duration < 2 ^ 32
 
 -- an index has room for an earliest time
 pub record FitsTime (z : ℤ) : Type 0 where

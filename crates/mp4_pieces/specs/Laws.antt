@@ -7,13 +7,14 @@ use Rattle.mp4_traf.specs.SyncSamples.{is_sync}
 use Rattle.mp4_traf.specs.declared.rows.Row.{Row}
 use Rattle.mp4_pieces.specs.declared.cut.Cut.{Cut}
 use Rattle.mp4_pieces.specs.declared.piece.Piece.{Piece}
-use Rattle.mp4_pieces.specs.Pieces.{IsPieceOf, cursor_after, pieces_from}
+use Rattle.mp4_pieces.specs.Pieces.{IsPieceOf, pieces_from}
+use Rattle.mp4_pieces.specs.PlainPieces.{plain_end}
 
 -- p is a piece of the run, and after it there is a cursor, from which on the run has the pieces ps
 pub record IsFollowedBy (cut : Cut) (moof_bytes : List ℕ) (run : Run) (p : Piece) (ps : List Piece) : Type 0 where
   pub piece : IsPieceOf moof_bytes run p
-  pub cursor : IsCursor run moof_bytes (cursor_after p)
-  pub rest : pieces_from cut moof_bytes run (cursor_after p) ≡ ps
+  pub cursor : IsCursor run moof_bytes (plain_end p.plain)
+  pub rest : pieces_from cut moof_bytes run (plain_end p.plain) ≡ ps
 
 -- each sync sample but the first of these follows one
 abbrev pub EachFollowsSync : List Row → Type 0

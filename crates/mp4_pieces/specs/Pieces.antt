@@ -1,5 +1,5 @@
 -- The pieces of a run, with the sums over their samples.
-use Rattle.std.specs.Prelude.{◌≡◌, ◌<◌, ◌≤◌, ◌+◌, ◌^◌, ◌+ℤ◌, ◌<ℤ◌, ℕ, pos, List, [], ◌∷◌, length, take, drop}
+use Rattle.std.specs.Prelude.{◌≡◌, ◌<◌, ◌≤◌, ◌+◌, ◌+ℤ◌, ℕ, pos, List, [], ◌∷◌, length, take, drop}
 use Rattle.std.specs.List.{sum_by}
 use Rattle.mp4_traf.specs.declared.run.Run.{Run}
 use Rattle.mp4_traf.specs.declared.rows.Row.{Row}
@@ -11,18 +11,11 @@ use Rattle.mp4_pieces.specs.declared.cut.Cut.{Cut}
 use Rattle.mp4_pieces.specs.declared.piece.Piece.{Piece}
 use Rattle.mp4_pieces.specs.Cutting.{cut_by}
 use Rattle.mp4_pieces.specs.Fitting.{cut_for, fits}
+use Rattle.mp4_pieces.specs.PlainPieces.{plain_at}
 
 -- the piece with these samples, from a cursor on
 unfoldable pub piece_at : Cursor → List Row → Piece
-piece_at c rows = record {
-  first = c.row;
-  count = length rows;
-  time = c.time;
-  place = c.place;
-  bytes = sizes rows;
-  duration = durations rows;
-  least = least_of (composition_times c.time rows);
-}
+piece_at c rows = record { plain = plain_at c (length rows) (sizes rows) (durations rows); least = least_of (composition_times c.time rows) }
 
 -- the cursor after these samples
 abbrev pub past_rows : Cursor → List Row → Cursor
@@ -57,20 +50,10 @@ cursor_at moof_bytes run i = past_rows (first_cursor run) (take i (rows_of run m
 
 -- the samples of a piece
 abbrev pub rows_in : List ℕ → Run → Piece → List Row
-rows_in moof_bytes run p = take p.count (drop p.first (rows_of run moof_bytes))
+rows_in moof_bytes run p = take p.plain.count (drop p.plain.first (rows_of run moof_bytes))
 
 -- the piece has samples of the run, and their sums
 pub record IsPieceOf (moof_bytes : List ℕ) (run : Run) (p : Piece) : Type 0 where
-  pub some : 0 < p.count
-  pub within : p.first + p.count ≤ run.count
-  pub is : p ≡ piece_at (cursor_at moof_bytes run p.first) (rows_in moof_bytes run p)
-
--- the numbers of the cursor after a piece fit their types
-pub record EndsInRange (p : Piece) : Type 0 where
-  pub row : p.first + p.count < 2 ^ 32
-  pub time : p.time + p.duration < 2 ^ 64
-  pub place : (p.place +ℤ pos p.bytes) <ℤ pos (2 ^ 63)
-
--- the cursor after a piece
-abbrev pub cursor_after : Piece → Cursor
-cursor_after p = record { row = p.first + p.count; time = p.time + p.duration; place = p.place +ℤ pos p.bytes }
+  pub some : 0 < p.plain.count
+  pub within : p.plain.first + p.plain.count ≤ run.count
+  pub is : p ≡ piece_at (cursor_at moof_bytes run p.plain.first) (rows_in moof_bytes run p)

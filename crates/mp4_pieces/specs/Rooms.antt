@@ -23,7 +23,7 @@ moof = kind (codes "moof")
 
 -- a reference has no room for a piece: 31 bits for the bytes of its moof and its mdat, 32 bits for its duration
 abbrev pub passes_reference : Piece → Bool
-passes_reference p = nat_lt (2 ^ 31 - 1) (fragment_size p) || nat_lt (2 ^ 32 - 1) p.duration
+passes_reference p = nat_lt (2 ^ 31 - 1) (fragment_size p) || nat_lt (2 ^ 32 - 1) p.plain.duration
 
 -- an index has no room for the earliest time of a group, which is that of its first piece: 64 bits without a sign
 abbrev pub passes_time : List Piece → Bool

@@ -12,4 +12,4 @@ mdat_header_size bytes = if nat_lt (8 + bytes) (2 ^ 32) then 8 else 16
 
 -- the moof and the mdat of a piece
 abbrev pub fragment_size : Piece → ℕ
-fragment_size p = moof_size p.count + (mdat_header_size p.bytes + p.bytes)
+fragment_size p = moof_size p.plain.count + (mdat_header_size p.plain.bytes + p.plain.bytes)

@@ -21,7 +21,7 @@ const MOST_DURATION: u64 = (1 << 32) - 1;
 fn passes_reference(piece: &Piece) -> bool
     ensures { result ≡ passes_reference piece.now }
 {
-    fragment_size(piece) > MOST_SIZE || piece.duration > MOST_DURATION
+    fragment_size(piece) > MOST_SIZE || piece.plain.duration > MOST_DURATION
 }
 
 /// Whether an index has no room for the time of a group that begins with this piece.

@@ -21,7 +21,8 @@ ghost use Rattle.mp4_pieces.specs.Fits.{HasRoomFor};
 ghost use Rattle.mp4_pieces.specs.Fitting.{cut_for, fits};
 ghost use Rattle.mp4_pieces.specs.Groups.{AreGroups, groups};
 ghost use Rattle.mp4_pieces.specs.Laws.{IsFollowedBy, MayBeOnePiece};
-ghost use Rattle.mp4_pieces.specs.Pieces.{EndsInRange, IsPieceOf, cut_rows, piece_count, pieces_from, pieces_of, rows_in};
+ghost use Rattle.mp4_pieces.specs.Pieces.{IsPieceOf, cut_rows, piece_count, pieces_from, pieces_of, rows_in};
+ghost use Rattle.mp4_pieces.specs.PlainPieces.{EndsInRange};
 ghost use Rattle.mp4_traf.specs.Ranges.{AreRunsOf, IsRunOf};
 ghost use Rattle.mp4_pieces.specs.Rooms.{index_faults, room_fault, room_faults};
 
@@ -52,19 +53,19 @@ pub fn pieces_name_samples()
     ensures pieces { (cut : Cut) (moof_bytes : List ℕ) (run : Run) →
         AllByRecursion (IsPieceOf moof_bytes run) (pieces_of cut moof_bytes run) }
     ensures least { (moof_bytes : List ℕ) (run : Run) (p : Piece) → IsPieceOf moof_bytes run p →
-        IsLeastOf (composition_times p.time (rows_in moof_bytes run p)) p.least }
+        IsLeastOf (composition_times p.plain.time (rows_in moof_bytes run p)) p.least }
     ensures range { (moof_bytes : List ℕ) (run : Run) (p : Piece) → IsRunOf moof_bytes run →
-        IsPieceOf moof_bytes run p → EndsInRange p }
+        IsPieceOf moof_bytes run p → EndsInRange p.plain }
 {}
 
 /// Where there is a limit in milliseconds, a piece of a run that has more than one sample lasts no longer: its duration
 /// has at most so many ticks of the timescale of its track, rounded down.
 pub fn pieces_are_short()
     ensures ticks { (cut : Cut) (moof_bytes : List ℕ) (run : Run) (millis : ℕ) → cut.duration ≡ Some millis →
-        AllByRecursion (λ p. 1 < p.count → p.duration ≤ millis * run.timescale / 1000)
+        AllByRecursion (λ p. 1 < p.plain.count → p.plain.duration ≤ millis * run.timescale / 1000)
         (pieces_of cut moof_bytes run) }
     ensures time { (cut : Cut) (moof_bytes : List ℕ) (run : Run) (millis : ℕ) → cut.duration ≡ Some millis →
-        AllByRecursion (λ p. 1 < p.count → 1000 * p.duration ≤ millis * run.timescale)
+        AllByRecursion (λ p. 1 < p.plain.count → 1000 * p.plain.duration ≤ millis * run.timescale)
         (pieces_of cut moof_bytes run) }
 {}
 
@@ -137,7 +138,7 @@ pub fn groups_begin_with_the_first()
 /// The bytes of a piece lie among those of its run.
 pub fn pieces_lie_in_their_run()
     ensures from { (moof_bytes : List ℕ) (run : Run) (p : Piece) → IsRunOf moof_bytes run →
-        IsPieceOf moof_bytes run p → run.place ≤ℤ p.place }
+        IsPieceOf moof_bytes run p → run.place ≤ℤ p.plain.place }
     ensures to { (moof_bytes : List ℕ) (run : Run) (p : Piece) → IsRunOf moof_bytes run →
-        IsPieceOf moof_bytes run p → (p.place +ℤ pos p.bytes) ≤ℤ end_place run }
+        IsPieceOf moof_bytes run p → (p.plain.place +ℤ pos p.plain.bytes) ≤ℤ end_place run }
 {}

@@ -2,10 +2,10 @@
 //!
 //! - [`Cut`]: the limits of a piece, and further options; [`Bound`] says which of them bound the pieces of a run, and
 //!   `run_cut.rt` has the cut of a run;
-//! - [`Piece`]: some samples of a run that follow each other, with their sums;
+//! - [`PlainPiece`] (`plain.rt`): some samples of a run that follow each other, with their sums;
+//!   [`PlainPiece::first`] is the first from a cursor on;
+//! - [`Piece`]: the same, with the least composition time of its samples, which only an index needs;
 //! - [`Pieces`], which goes over the pieces of a run, from its first sample or a cursor on, each filled by `fill.rt`;
-//! - [`PlainPiece`] (`plain.rt`), a piece without what only an index needs; [`PlainPiece::first`] is the first from a
-//!   cursor on;
 //! - [`room`] (`rooms.rt`): whether there is room for the numbers in the output of a moof, and `index.rt` for an index;
 //! - [`moof_size`], [`mdat_header_size`] and [`fragment_size`] (`sizes.rt`): how many bytes a piece has when it is
 //!   written;
@@ -15,8 +15,8 @@
 //! `specs/Pieces.antt` what the pieces of a run are, `specs/PlainPieces.antt` what they are without their least
 //! composition times, `specs/Groups.antt` which of them share an index, `specs/Sizes.antt` how many bytes a piece has
 //! when it is written, `specs/Rooms.antt` for which numbers there is no room, and `specs/Fits.antt` when there is room
-//! for all. `specs/Allowed.antt` has the arguments of a cut, `specs/Bounds.antt` what bounds the pieces of a run. How pieces and their room are found, row by row, is said
-//! in `specs/Implementation/`.
+//! for all. `specs/Allowed.antt` has the arguments of a cut, `specs/Bounds.antt` what bounds the pieces of a run. How
+//! pieces and their room are found, row by row, is said in `specs/Implementation/`.
 #![tactic(auto)]
 
 mod bound;

@@ -84,12 +84,12 @@ impl<'a> Iterator for Pieces<'a> {
         let begun = opened(self.at, &first);
         if self.cut.is_counted {
             let piece = fill_counted(&self.cut, begun, &mut self.rows);
-            self.at = piece.cursor_after();
+            self.at = piece.plain.cursor_after();
             self.peeked = None;
             return Some(piece);
         }
         let filled = fill(&self.cut, begun, is_sync(first.flags), &mut self.rows);
-        self.at = filled.piece.cursor_after();
+        self.at = filled.piece.plain.cursor_after();
         self.peeked = filled.peeked;
         Some(filled.piece)
     }

@@ -1,20 +1,20 @@
 //! A piece of a run without the number that only an index needs.
 
-ghost use Rattle.std.specs.Prelude.{◌≡◌, ◌+◌, ◌+ℤ◌, ◌<ℤ◌, ◌^◌, ◌<◌, ◌≤◌, ◌∷◌, pos, drop};
+ghost use Rattle.std.specs.Prelude.{◌≡◌, ◌+◌, ◌<◌, ◌≤◌, ◌∷◌, drop};
 ghost use Rattle.mp4_traf.specs.Ranges.{IsRunOf};
 ghost use Rattle.mp4_traf.specs.Rows.{IsCursor, rows_of};
 ghost use Rattle.mp4_pieces.specs.Bounds.{IsBound};
 ghost use Rattle.mp4_pieces.specs.Implementation.Counting.{IsFirst, LastsWithin};
-ghost use Rattle.mp4_pieces.specs.Pieces.{cursor_after, pieces_from};
-ghost use Rattle.mp4_pieces.specs.PlainPieces.{piece_of, plain_at, plain_end, plain_of, plain_start};
+ghost use Rattle.mp4_pieces.specs.Pieces.{pieces_from};
+ghost use Rattle.mp4_pieces.specs.PlainPieces.{EndsInRange, piece_of, plain_at, plain_end, plain_start};
 
 use crate::bound::Bound;
 use crate::cut::Cut;
-use crate::piece::Piece;
 use crate::pieces::Pieces;
 use mp4_frag::{Cursor, Run};
 
-/// A [`Piece`] without the least composition time of its samples, which only an index needs.
+/// Samples of a run that follow each other, and their sums. Times are ticks of the track's timescale. A `Piece` has
+/// their least composition time too, which only an index needs.
 #[derive(Clone, Copy, Debug, PartialEq, Eq)]
 pub struct PlainPiece {
     /// The index in the run of its first sample.
@@ -41,19 +41,19 @@ fn first_by_row(run: &Run, moof_bytes: &[u8], cut: &Cut, at: &Cursor) -> PlainPi
         pieces_from cut.now moof_bytes.now run.now (plain_end result) }
 {
     let piece = Pieces::at(run, moof_bytes, cut, *at).next().unwrap();
-    PlainPiece::of(&piece)
+    piece.plain
 }
 
 /// The first piece from a cursor on, which has so many samples: nothing but their sizes and durations is read.
 #[inline(always)]
-fn first_of(run: &Run, moof_bytes: &[u8], cut: &Cut, at: &Cursor, count: u32) -> PlainPiece
+fn first_of(run: &Run, moof_bytes: &[u8], at: &Cursor, count: u32) -> PlainPiece
     requires run { IsRunOf moof_bytes.now run.now }
     requires cursor { IsCursor run.now moof_bytes.now at.now }
-    requires first { IsFirst cut.now moof_bytes.now run.now at.now count }
-    ensures { pieces_from cut.now moof_bytes.now run.now at.now ≡ piece_of moof_bytes.now run.now result ∷
-        pieces_from cut.now moof_bytes.now run.now (plain_end result) }
+    requires first { (cut : Cut) × IsFirst cut moof_bytes.now run.now at.now count }
+    ensures { (cut : Cut) → IsFirst cut moof_bytes.now run.now at.now count →
+        pieces_from cut moof_bytes.now run.now at.now ≡ piece_of moof_bytes.now run.now result ∷
+        pieces_from cut moof_bytes.now run.now (plain_end result) }
 {
-    let _ = cut;
     let sums = run.sums_between(moof_bytes, at.row, count);
     plain_at(at, count, sums.bytes, sums.ticks)
 }
@@ -70,7 +70,7 @@ fn count_in_time(run: &Run, moof_bytes: &[u8], row: u32, most: u32, ticks: u64) 
 
 /// The piece of so many samples from a cursor on, with these sums.
 #[inline(always)]
-fn plain_at(at: &Cursor, count: u32, bytes: u64, duration: u64) -> PlainPiece
+pub(crate) fn plain_at(at: &Cursor, count: u32, bytes: u64, duration: u64) -> PlainPiece
     ensures { result ≡ plain_at at.now count bytes duration }
 {
     PlainPiece {
@@ -84,21 +84,6 @@ fn plain_at(at: &Cursor, count: u32, bytes: u64, duration: u64) -> PlainPiece
 }
 
 impl PlainPiece {
-    /// A piece without its least composition time.
-    #[inline(always)]
-    pub fn of(piece: &Piece) -> PlainPiece
-        ensures { result ≡ plain_of piece.now }
-    {
-        PlainPiece {
-            first: piece.first,
-            count: piece.count,
-            time: piece.time,
-            place: piece.place,
-            bytes: piece.bytes,
-            duration: piece.duration,
-        }
-    }
-
     /// The first piece of a run from a cursor on. `moof_bytes` are the bytes of its moof. Where only the number of
     /// samples and their durations bound it, nothing but their sizes and durations is read.
     #[inline(always)]
@@ -130,11 +115,11 @@ impl PlainPiece {
     {
         let left = run.count - at.row;
         match bound {
-            Bound::Samples(most) => first_of(run, moof_bytes, cut, at, most.min(left)),
+            Bound::Samples(most) => first_of(run, moof_bytes, at, most.min(left)),
             Bound::Ticks(ticks) => {
                 let most = cut.samples.min(left);
                 let count = count_in_time(run, moof_bytes, at.row, most, ticks);
-                first_of(run, moof_bytes, cut, at, count)
+                first_of(run, moof_bytes, at, count)
             }
             Bound::Rows => {
                 // A copy, so that only here the piece need be in memory.
@@ -159,9 +144,7 @@ impl PlainPiece {
     /// The cursor after it, where the next piece begins. Each piece of a run ends in range.
     #[inline(always)]
     pub fn cursor_after(&self) -> Cursor
-        requires row { self.now.first + self.now.count < 2 ^ 32 }
-        requires time { self.now.time + self.now.duration < 2 ^ 64 }
-        requires place { (self.now.place +ℤ pos self.now.bytes) <ℤ pos (2 ^ 63) }
+        requires { EndsInRange self.now }
         ensures { result ≡ plain_end self.now }
     {
         Cursor {

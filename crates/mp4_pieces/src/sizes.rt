@@ -31,6 +31,6 @@ pub fn mdat_header_size(bytes: u64) -> u64
 pub fn fragment_size(piece: &Piece) -> u128
     ensures { result ≡ fragment_size piece.now }
 {
-    let moof = u128::from(moof_size(piece.count));
-    moof + (u128::from(mdat_header_size(piece.bytes)) + u128::from(piece.bytes))
+    let moof = u128::from(moof_size(piece.plain.count));
+    moof + (u128::from(mdat_header_size(piece.plain.bytes)) + u128::from(piece.plain.bytes))
 }

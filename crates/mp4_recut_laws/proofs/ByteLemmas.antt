@@ -77,7 +77,7 @@ number (suc n) v = join_both (of_all (byte_at n v ∷ []) (byte n v, tt)) (numbe
 
 references : (ps : List Piece) → Are (flat_map reference_bytes ps)
 references [] = none
-references (p ∷ ps) = join_both (join_both (number 4 (fragment_size p)) (join_both (number 4 p.duration) (number 4 0))) (references ps)
+references (p ∷ ps) = join_both (join_both (number 4 (fragment_size p)) (join_both (number 4 p.plain.duration) (number 4 0))) (references ps)
 
 index_by : (t : Bool) (run : Run) (timescale : ℕ) (g : List Piece) → Are (cond t (written_index run timescale g) [])
 unfolding written_index
@@ -117,8 +117,8 @@ module _ (cut : Cut) (moof_bytes : List ℕ) (start : ℕ) (payload : List ℕ) 
   pieces_bytes : (run : Run) (number : ℕ) (ps : List Piece) → AllByRecursion (Fits run) ps → Are (pieces_text cut moof_bytes start payload run number ps)
   pieces_bytes run number [] all = none
   pieces_bytes run number (p ∷ ps) all =
-      join_both (join_both (record { is = moof_box_bytes (written_fragment moof_bytes run p) number all.0 }) (header p.bytes))
-      (join_both (record { is = IsBytes-take p.bytes (drop (natural p.place - start) payload) (IsBytes-drop (natural p.place - start) payload fits) }) (pieces_bytes run (number + 1) ps all.1))
+      join_both (join_both (record { is = moof_box_bytes (written_fragment moof_bytes run p) number all.0 }) (header p.plain.bytes))
+      (join_both (record { is = IsBytes-take p.plain.bytes (drop (natural p.plain.place - start) payload) (IsBytes-drop (natural p.plain.place - start) payload fits) }) (pieces_bytes run (number + 1) ps all.1))
 
   groups_bytes : (run : Run) (timescale number : ℕ) (gs : List (List Piece)) → AllByRecursion (Fits run) (join gs) → Are (groups_text cut moof_bytes start payload run timescale number gs)
   groups_bytes run timescale number [] all = none

@@ -130,7 +130,7 @@ each cut tracks moof_bytes start payload run small sound of (p ∷ ps) is fine =
     some = omega (arith, count_is moof_bytes run p is.0, is.0.some);
     fits = ap (λ (n : ℕ). fits (cut_for n cut) (rows_in moof_bytes run p)) (own_timescale tracks moof_bytes run sound (written_fragment moof_bytes run p) (can_be_read tracks moof_bytes run p sound of is.0) refl) ∙ fine.0.fits;
     all = fine.0.all;
-    small = omega (arith, length-take p.bytes (drop (natural p.place - start) payload), length-drop (natural p.place - start) payload, small);
+    small = omega (arith, length-take p.plain.bytes (drop (natural p.plain.place - start) payload), length-drop (natural p.plain.place - start) payload, small);
   },
   each cut tracks moof_bytes start payload run small sound of ps is.1 fine.1,
 )
@@ -142,12 +142,12 @@ run_pieces cut tracks moof_bytes start payload run small sound of w =
     each cut tracks moof_bytes start payload run small sound of (pieces_of cut moof_bytes run) (pieces_are_of cut moof_bytes run)
     (fine cut moof_bytes start payload run (first_cursor run) (cut_rows (own cut run) (rows_of run moof_bytes)) (sym (are cut moof_bytes run).joined) (within_first cut moof_bytes start payload run w) (are cut moof_bytes run).fit)
 
-long_each : (cut : Cut) (moof_bytes : List ℕ) (start : ℕ) (payload : List ℕ) (run : Run) (ps : List Piece) → AllByRecursion (IsPieceOf moof_bytes run) ps → AllByRecursion (Fine cut moof_bytes start payload run) ps → AllByRecursion (λ (p : Piece). length (media_of start payload p) ≡ p.bytes) ps
+long_each : (cut : Cut) (moof_bytes : List ℕ) (start : ℕ) (payload : List ℕ) (run : Run) (ps : List Piece) → AllByRecursion (IsPieceOf moof_bytes run) ps → AllByRecursion (Fine cut moof_bytes start payload run) ps → AllByRecursion (λ (p : Piece). length (media_of start payload p) ≡ p.plain.bytes) ps
 long_each cut moof_bytes start payload run [] is fine = tt
 long_each cut moof_bytes start payload run (p ∷ ps) is fine = (fine.0.all ∙ bytes_are moof_bytes run p is.0, long_each cut moof_bytes start payload run ps is.1 fine.1)
 
 -- all bytes of the media of its pieces are in the payload
-pub run_long : (cut : Cut) (moof_bytes : List ℕ) (start : ℕ) (payload : List ℕ) (run : Run) → LiesIn start payload moof_bytes run → AllByRecursion (λ (p : Piece). length (media_of start payload p) ≡ p.bytes) (pieces_of cut moof_bytes run)
+pub run_long : (cut : Cut) (moof_bytes : List ℕ) (start : ℕ) (payload : List ℕ) (run : Run) → LiesIn start payload moof_bytes run → AllByRecursion (λ (p : Piece). length (media_of start payload p) ≡ p.plain.bytes) (pieces_of cut moof_bytes run)
 run_long cut moof_bytes start payload run w =
     long_each cut moof_bytes start payload run (pieces_of cut moof_bytes run) (pieces_are_of cut moof_bytes run)
     (fine cut moof_bytes start payload run (first_cursor run) (cut_rows (own cut run) (rows_of run moof_bytes)) (sym (are cut moof_bytes run).joined) (within_first cut moof_bytes start payload run w) (are cut moof_bytes run).fit)

@@ -63,7 +63,7 @@ sample_times track entry (row ∷ rows) time media = ap (λ (zs : List ℤ). (po
 -- what is known of a piece that follows an index
 record Good (moof_bytes : List ℕ) (start : ℕ) (payload : List ℕ) (run : Run) (p : Piece) : Type 0 where
   is : IsPieceOf moof_bytes run p
-  long : length (media_of start payload p) ≡ p.bytes
+  long : length (media_of start payload p) ≡ p.plain.bytes
   fits : FitsReference p
 
 same_references : (a b c d e f : ℕ) (rs ss : List Reference) → a ≡ b → c ≡ d → e ≡ f → rs ≡ ss → ◌≡◌ {A = List Reference} (record { size = a; duration = c; access = e } ∷ rs) (record { size = b; duration = d; access = f } ∷ ss)
@@ -77,22 +77,22 @@ module _ (moof_bytes : List ℕ) (start : ℕ) (payload : List ℕ) (run : Run) 
   piece_size p number good =
       let media = media_of start payload p in
       let f = written_fragment moof_bytes run p in
-      let header : mdat_header_size (length media) ≡ mdat_header_size p.bytes = ap mdat_header_size good.long in
+      let header : mdat_header_size (length media) ≡ mdat_header_size p.plain.bytes = ap mdat_header_size good.long in
       omega (arith, length-append (moof_box f number) (mdat_as_box media).bytes, length_moof f number, count_is moof_bytes run p good.is, length_media media, header, good.long)
 
-  piece_duration : (p : Piece) → Good moof_bytes start payload run p → p.duration ≡ sum_by (λ (s : MediaSample). s.duration) (piece_samples (media_piece p))
+  piece_duration : (p : Piece) → Good moof_bytes start payload run p → p.plain.duration ≡ sum_by (λ (s : MediaSample). s.duration) (piece_samples (media_piece p))
   unfolding piece_specs.piece_at
   piece_duration p good =
-      ap (λ (q : Piece). q.duration) good.is.is ∙ sym (sample_durations run.track run.entry (rows_in moof_bytes run p) p.time (media_of start payload p))
+      ap (λ (q : Piece). q.plain.duration) good.is.is ∙ sym (sample_durations run.track run.entry (rows_in moof_bytes run p) p.plain.time (media_of start payload p))
 
   piece_least : (p : Piece) → Good moof_bytes start payload run p → p.least ≡ least_of (map (λ (s : MediaSample). s.composition) (piece_samples (media_piece p)))
   unfolding piece_specs.piece_at
   piece_least p good =
       let rows = rows_in moof_bytes run p in
-      let time : (cursor_at moof_bytes run p.first).time ≡ p.time = sym (ap (λ (q : Piece). q.time) good.is.is) in
+      let time : (cursor_at moof_bytes run p.plain.first).time ≡ p.plain.time = sym (ap (λ (q : Piece). q.plain.time) good.is.is) in
       ap (λ (q : Piece). q.least) good.is.is
       ∙ ap (λ (t : ℕ). least_of (composition_times t rows)) time
-      ∙ sym (ap least_of (sample_times run.track run.entry rows p.time (media_of start payload p)))
+      ∙ sym (ap least_of (sample_times run.track run.entry rows p.plain.time (media_of start payload p)))
 
   references_back : (number : ℕ) (g : List Piece) → AllByRecursion (Good moof_bytes start payload run) g → references_in (length g) (flat_map reference_bytes g) ≡ references_of number (map media_piece g)
   references_back number [] all = refl
@@ -101,8 +101,8 @@ module _ (moof_bytes : List ℕ) (start : ℕ) (payload : List ℕ) (run : Run) 
       let rest = flat_map reference_bytes g in
       let size = fragment_size p in
       same_references _ _ _ _ _ _ _ _
-      (big_number-reads_back 4 size ((big_bytes 4 p.duration ++ big_bytes 4 0) ++ rest) (omega (arith, good.fits.size)) ∙ piece_size p number good)
-      (big_number-reads_back 4 p.duration (big_bytes 4 0 ++ rest) (omega (arith, good.fits.duration)) ∙ piece_duration p good)
+      (big_number-reads_back 4 size ((big_bytes 4 p.plain.duration ++ big_bytes 4 0) ++ rest) (omega (arith, good.fits.size)) ∙ piece_size p number good)
+      (big_number-reads_back 4 p.plain.duration (big_bytes 4 0 ++ rest) (omega (arith, good.fits.duration)) ∙ piece_duration p good)
       (big_number-reads_back 4 0 rest (omega arith))
       (references_back (number + 1) g all.1)
 
@@ -163,7 +163,7 @@ pub scale_small : (ts : List Track) (id : ℕ) → AllByRecursion (λ (t : Track
 scale_small ts id all = scale_by ts (position (λ (t : Track). t.id == id) ts) all
 
 module _ (cut : Cut) (moof_bytes : List ℕ) (start : ℕ) (payload : List ℕ) (tracks : List Track) where
-  all_good : (run : Run) (ps : List Piece) → AllByRecursion (IsPieceOf moof_bytes run) ps → AllByRecursion (λ (p : Piece). length (media_of start payload p) ≡ p.bytes) ps → AllByRecursion FitsReference ps → AllByRecursion (Good moof_bytes start payload run) ps
+  all_good : (run : Run) (ps : List Piece) → AllByRecursion (IsPieceOf moof_bytes run) ps → AllByRecursion (λ (p : Piece). length (media_of start payload p) ≡ p.plain.bytes) ps → AllByRecursion FitsReference ps → AllByRecursion (Good moof_bytes start payload run) ps
   all_good run [] is long fit = tt
   all_good run (p ∷ ps) is long fit = (record { is = is.0; long = long.0; fits = fit.0 }, all_good run ps is.1 long.1 fit.1)
 

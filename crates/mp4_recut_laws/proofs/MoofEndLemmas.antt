@@ -97,7 +97,7 @@ ends-index n false run timescale g is = refl
 
 module _ (cut : Cut) (moof_bytes : List ℕ) (start : ℕ) (payload : List ℕ) where
   abbrev Long : Piece → Type 0
-  Long p = length (media_of start payload p) ≡ p.bytes
+  Long p = length (media_of start payload p) ≡ p.plain.bytes
 
   module _ (run : Run) (timescale : ℕ) where
     -- k pieces of a group are left, and then the groups that start after them
@@ -119,9 +119,9 @@ module _ (cut : Cut) (moof_bytes : List ℕ) (start : ℕ) (payload : List ℕ) 
         let a = length (before ++ head_of moof_bytes run p number) in
         let end : FragmentEnd = record { end = length before + length moof; count = number } in
         let head = length-append before (head_of moof_bytes run p number) in
-        let ahead = length-append moof (mdat_header p.bytes) in
+        let ahead = length-append moof (mdat_header p.plain.bytes) in
         let mdat = length-append (mdat_header (length m)) m in
-        let same : length (mdat_header (length m)) ≡ length (mdat_header p.bytes) = ap (λ (n : ℕ). length (mdat_header n)) long in
+        let same : length (mdat_header (length m)) ≡ length (mdat_header p.plain.bytes) = ap (λ (n : ℕ). length (mdat_header n)) long in
         ap (λ (l : List FragmentEnd). end ∷ moved a (moved (length m) l)) e
         ∙ ap (λ (l : List FragmentEnd). end ∷ l)
         (moved-twice a (length m) (moof_ends 0 (number + 1) later)
@@ -156,12 +156,12 @@ module _ (cut : Cut) (moof_bytes : List ℕ) (start : ℕ) (payload : List ℕ) 
     long-more before number p rest later long e =
         let m = media_of start payload p in
         let moof = written_moof p run moof_bytes number in
-        let same : length (mdat_header (length m)) ≡ length (mdat_header p.bytes) = ap (λ (n : ℕ). length (mdat_header n)) long in
+        let same : length (mdat_header (length m)) ≡ length (mdat_header p.plain.bytes) = ap (λ (n : ℕ). length (mdat_header n)) long in
         omega (
           arith,
           length-append (before ++ head_of moof_bytes run p number) (m ++ rest),
           length-append before (head_of moof_bytes run p number),
-          length-append moof (mdat_header p.bytes),
+          length-append moof (mdat_header p.plain.bytes),
           length-append m rest,
           length-append (moof ++ (mdat_header (length m) ++ m)) (joined later),
           length-append moof (mdat_header (length m) ++ m),

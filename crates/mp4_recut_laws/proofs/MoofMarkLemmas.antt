@@ -47,7 +47,7 @@ record HasMarks (t : Effects) (fragment_ends : List FragmentEnd) : Type 0 where
 -- ---- a fragment
 
 all-long : (cut : Cut) (moof_bytes : List ℕ) (start : ℕ) (payload : List ℕ) (tracks : List Track) (runs : List Run) → AllByRecursion (IsRunIn tracks start payload moof_bytes) runs
-    → AllByRecursion (λ (run : Run). AllByRecursion (λ (p : Piece). length (media_of start payload p) ≡ p.bytes) (pieces_of cut moof_bytes run)) runs
+    → AllByRecursion (λ (run : Run). AllByRecursion (λ (p : Piece). length (media_of start payload p) ≡ p.plain.bytes) (pieces_of cut moof_bytes run)) runs
 all-long cut moof_bytes start payload tracks [] all = tt
 all-long cut moof_bytes start payload tracks (run ∷ runs) all = (long_run cut moof_bytes start payload tracks run all.0, all-long cut moof_bytes start payload tracks runs all.1)
 

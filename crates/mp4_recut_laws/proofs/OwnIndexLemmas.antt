@@ -211,12 +211,12 @@ module _ (cut : Cut) (moof_bytes : List ℕ) (start : ℕ) (payload : List ℕ) 
   unfolding piece_specs.piece_at
   fits_one run p is fit time =
       let rows = rows_in moof_bytes run p in
-      let header : mdat_header_size (sizes rows) ≡ mdat_header_size p.bytes = ap mdat_header_size (bytes_are moof_bytes run p is) in
-      let begin : (cursor_at moof_bytes run p.first).time ≡ p.time = sym (ap (λ (q : Piece). q.time) is.is) in
-      let same : p.least ≡ least_of (composition_times p.time rows) = ap (λ (q : Piece). q.least) is.is ∙ ap (λ (t : ℕ). least_of (composition_times t rows)) begin in
+      let header : mdat_header_size (sizes rows) ≡ mdat_header_size p.plain.bytes = ap mdat_header_size (bytes_are moof_bytes run p is) in
+      let begin : (cursor_at moof_bytes run p.plain.first).time ≡ p.plain.time = sym (ap (λ (q : Piece). q.plain.time) is.is) in
+      let same : p.least ≡ least_of (composition_times p.plain.time rows) = ap (λ (q : Piece). q.least) is.is ∙ ap (λ (t : ℕ). least_of (composition_times t rows)) begin in
       record {
         size = omega (arith, count_is moof_bytes run p is, header, bytes_are moof_bytes run p is, fit.size);
-        duration = omega (arith, ap (λ (q : Piece). q.duration) is.is, fit.duration);
+        duration = omega (arith, ap (λ (q : Piece). q.plain.duration) is.is, fit.duration);
         time = subst FitsTime same time;
       }
 

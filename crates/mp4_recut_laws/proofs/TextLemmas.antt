@@ -37,15 +37,15 @@ index_by false run timescale g = refl
 
 module _ (cut : Cut) (moof_bytes : List ℕ) (start : ℕ) (payload : List ℕ) where
   abbrev Long : Piece → Type 0
-  Long p = length (media_of start payload p) ≡ p.bytes
+  Long p = length (media_of start payload p) ≡ p.plain.bytes
 
   pieces_joined : (run : Run) (number : ℕ) (ps : List Piece) → AllByRecursion Long ps → joined (pieces_items number (map (piece_with_media moof_bytes start payload run) ps)) ≡ pieces_text cut moof_bytes start payload run number ps
   pieces_joined run number [] long = refl
   pieces_joined run number (p ∷ ps) long =
       let m = media_of start payload p in
       ap (λ (n : ℕ). (written_moof p run moof_bytes number ++ (mdat_header n ++ m)) ++ joined (pieces_items (number + 1) (map (piece_with_media moof_bytes start payload run) ps))) long.0
-      ∙ (regroup (written_moof p run moof_bytes number) (mdat_header p.bytes) m _
-      ∙ ap (λ (z : List ℕ). (written_moof p run moof_bytes number ++ mdat_header p.bytes) ++ (m ++ z)) (pieces_joined run (number + 1) ps long.1))
+      ∙ (regroup (written_moof p run moof_bytes number) (mdat_header p.plain.bytes) m _
+      ∙ ap (λ (z : List ℕ). (written_moof p run moof_bytes number ++ mdat_header p.plain.bytes) ++ (m ++ z)) (pieces_joined run (number + 1) ps long.1))
 
   all_first : (xs ys : List Piece) → AllByRecursion Long (xs ++ ys) → AllByRecursion Long xs
   all_first [] ys all = tt
@@ -67,7 +67,7 @@ module _ (cut : Cut) (moof_bytes : List ℕ) (start : ℕ) (payload : List ℕ) 
   pieces_append run number k [] ys e = ap (λ (n : ℕ). pieces_text cut moof_bytes start payload run n ys) (omega (arith, e))
   pieces_append run number k (p ∷ xs) ys e =
       let m = media_of start payload p in
-      let head = written_moof p run moof_bytes number ++ mdat_header p.bytes in
+      let head = written_moof p run moof_bytes number ++ mdat_header p.plain.bytes in
       ap (λ (z : List ℕ). head ++ (m ++ z)) (pieces_append run (number + 1) k xs ys (omega (arith, e)))
       ∙ (ap (λ (z : List ℕ). head ++ z) (sym (append_assoc m (pieces_text cut moof_bytes start payload run (number + 1) xs) (pieces_text cut moof_bytes start payload run k ys)))
       ∙ sym (append_assoc head (m ++ pieces_text cut moof_bytes start payload run (number + 1) xs) (pieces_text cut moof_bytes start payload run k ys)))

@@ -206,7 +206,7 @@ pub fn next_piece(run: &Run, held: &[u8], cut: &Cut, at: &mut Cursor) -> Option<
     ensures cursor { IsCursor run.now held.now at.new }
 {
     let piece = Pieces::at(run, held, cut, *at).next()?;
-    *at = piece.cursor_after();
+    *at = piece.plain.cursor_after();
     Some(piece)
 }
 
@@ -220,16 +220,16 @@ pub fn write_front<W: Sink>(
 ) -> Result<(), WriteFault>
     requires run { IsRunOf held.now run.now }
     requires piece { IsPieceOf held.now run.now piece.now }
-    requires media { piece.now.bytes ≤ 2 ^ 62 }
+    requires media { piece.now.plain.bytes ≤ 2 ^ 62 }
     ensures { Writes (sent W.contents W.has_failed w.old w.new)
-        (written_moof piece.now run.now held.now sequence_number ++ mdat_header piece.now.bytes)
+        (written_moof piece.now run.now held.now sequence_number ++ mdat_header piece.now.plain.bytes)
         result }
 {
     match write_moof(piece, run, held, sequence_number, w) {
         Ok(()) => {}
         Err(WriteFault) => return Err(WriteFault),
     }
-    match write_mdat_header(piece.bytes, w) {
+    match write_mdat_header(piece.plain.bytes, w) {
         Ok(()) => Ok(()),
         Err(WriteFault) => Err(WriteFault),
     }

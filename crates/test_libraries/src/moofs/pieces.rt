@@ -57,7 +57,7 @@ fn pieces_of(alloc: Global, run: &Run, held: &[u8], cut: &Cut) -> Result<Vec<Pie
         if at.row >= run.count {
             return Err("a piece too many".into());
         }
-        if PlainPiece::first(run, held, cut, &at) != PlainPiece::of(&piece) {
+        if PlainPiece::first(run, held, cut, &at) != piece.plain {
             return Err("another piece without its least composition time".into());
         }
         if next_piece(run, held, cut, &mut at) != Some(piece) {
@@ -155,13 +155,16 @@ fn check(
     let mut pieces = Vec::new(alloc);
     for (first, count, place, bytes) in expected {
         let time = u64::from(*first) * 1024;
-        pieces.push(Piece {
+        let plain = PlainPiece {
             first: *first,
             count: *count,
             time,
             place: *place,
             bytes: *bytes,
             duration: u64::from(*count) * 1024,
+        };
+        pieces.push(Piece {
+            plain,
             least: i128::from(time),
         })?;
     }

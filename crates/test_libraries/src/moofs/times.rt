@@ -78,7 +78,7 @@ fn check(
     };
     let mut pieces = Vec::new(alloc);
     for piece in outcome_of(alloc, moov, &moof, &cut)? {
-        pieces.push((piece.count, piece.duration))?;
+        pieces.push((piece.plain.count, piece.plain.duration))?;
     }
     assert_eq!(rt; pieces.as_slice(), expected, "{limits:?}");
     Ok(())

@@ -85,7 +85,7 @@ fn write_all<W: Sink>(run: &Run, held: &[u8], cut: &Cut, w: &mut W) -> Result<()
     for piece in Pieces::of(run, held, cut) {
         number = number.saturating_add(1);
         write_moof(&piece, run, held, number, w)?;
-        write_mdat_header(piece.bytes.min(1 << 62), w)?;
+        write_mdat_header(piece.plain.bytes.min(1 << 62), w)?;
     }
     Ok(())
 }

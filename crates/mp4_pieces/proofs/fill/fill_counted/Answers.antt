@@ -21,7 +21,7 @@ loop-piece-preserved c =
     let steps = c.in-Some.ensures.steps in
     record {
       pieces = λ last so_far. ap (λ (q : Piece). grown cut q so_far rest) c.with_row-piece.ensures
-          ∙ sym (grown_more cut p so_far row rest c.requires.plain (le-leb (suc p.count) cut.samples c.loop-piece-test.true))
+          ∙ sym (grown_more cut p so_far row rest c.requires.plain (le-leb (suc p.plain.count) cut.samples c.loop-piece-test.true))
           ∙ ap (λ (rows : List Row). grown cut p so_far rows) (sym steps)
           ∙ c.loop-piece.invariant.pieces last so_far;
       grows = subst (λ (q : Piece). Grows q rest) (sym c.with_row-piece.ensures)
@@ -36,4 +36,4 @@ returns-in_default-clause-pieces c = λ last.
 pub returns-clause-pieces : goal.returns-clause-pieces
 returns-clause-pieces c = λ last.
     sym (c.loop-piece.invariant.pieces last last)
-    ∙ grown_full c.args.own.now.cut c.loop-piece.piece last c.loop-piece.rows (not_less c.loop-piece.piece.count c.args.own.now.cut.samples c.loop-piece-test.false)
+    ∙ grown_full c.args.own.now.cut c.loop-piece.piece last c.loop-piece.rows (not_less c.loop-piece.piece.plain.count c.args.own.now.cut.samples c.loop-piece-test.false)

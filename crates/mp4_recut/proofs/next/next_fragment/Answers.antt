@@ -1,7 +1,7 @@
 use Rattle.std.proofs.Common.{arith, ◌≡◌, ◌≤◌, ◌^◌, ◌∙◌, ◌+◌, ap, refl, rules, sym, length}
 use Rattle.mp4_cut.specs.Sidx.{natural}
 use Rattle.mp4_pieces.specs.declared.piece.Piece.{Piece}
-use Rattle.mp4_pieces.specs.Pieces.{cursor_after}
+use Rattle.mp4_pieces.specs.PlainPieces.{plain_end}
 use Rattle.mp4_recut.specs.Cursors.{left_in, pieces_ahead}
 use Rattle.mp4_recut.specs.Splitting.{index_before, next_group, output_fragment, timescale_of}
 use Rattle.mp4_recut.specs.declared.cursor.FragmentCursor.{FragmentCursor}
@@ -23,7 +23,7 @@ returns-in-Err g c =
     let at = c.seek.new.c in
     let puts = c.in-Err.ensures in
     let p = puts.piece in
-    let d : FragmentCursor = record { index = at.index; run = at.run; at = cursor_after p; group = next_group at.group } in
+    let d : FragmentCursor = record { index = at.index; run = at.run; at = plain_end p.plain; group = next_group at.group } in
     record {
       fragment = output_fragment (index_before cut at.run (timescale_of tracks at.run.track) at.group (pieces_ahead cut h at)) h.bytes at.run p c.args.number;
       later = left_in cut h tracks (c.args.number + 1) d;
@@ -40,7 +40,7 @@ returns g c =
     let puts = c.in-Ok.ensures in
     let p = puts.piece in
     let d : FragmentCursor = record { index = at.index; run = at.run; at = c.cursor_after-c.result; group = c.if-c-eq0.c } in
-    let there : c.cursor_after-c.result ≡ cursor_after p = c.cursor_after-c.ensures ∙ ap cursor_after (sym puts.is) in
+    let there : c.cursor_after-c.result ≡ plain_end p.plain = c.cursor_after-c.ensures ∙ ap (λ (x : Piece). plain_end x.plain) (sym puts.is) in
     let group : c.if-c-eq0.c ≡ next_group at.group =
     elim c.if-c-eq0.branch [
       | then-c-eq0 w ↦ w.c-is ∙ sym (ap next_group w.if-c-eq0.true)
@@ -50,7 +50,7 @@ returns g c =
       fragment = output_fragment (index_before cut at.run (timescale_of tracks at.run.track) at.group (pieces_ahead cut h at)) h.bytes at.run p c.args.number;
       is = (c.seek.ensures c.args.cut.now c.requires.at c.requires.cut).same c.if-not-seek.false c.args.number ∙ fragment_is cut h tracks at p ((c.seek.ensures c.args.cut.now c.requires.at c.requires.cut).at c.if-not-seek.false) puts.first d refl refl there group c.args.number;
       put = puts.put;
-      place = omega (arith, c.media_offset.ensures, ap (λ (x : Piece). natural x.place) puts.is);
-      len = sym (ap (λ (x : Piece). x.bytes) puts.is);
+      place = omega (arith, c.media_offset.ensures, ap (λ (x : Piece). natural x.plain.place) puts.is);
+      len = sym (ap (λ (x : Piece). x.plain.bytes) puts.is);
       at = past_placed cut h tracks at p ((c.seek.ensures c.args.cut.now c.requires.at c.requires.cut).at c.if-not-seek.false) puts.first d refl refl there group puts.later;
     }

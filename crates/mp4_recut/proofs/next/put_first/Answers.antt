@@ -1,7 +1,7 @@
 use Rattle.std.proofs.Common.{rules, ◌≡◌, ◌∷◌, [], false, ap, arith, length, refl, subst}
 use Rattle.mp4_machine.specs.Ends.{sent}
 use Rattle.mp4_machine.specs.Puts.{HasFailed, HasPut}
-use Rattle.mp4_pieces.specs.Pieces.{cursor_after, pieces_from}
+use Rattle.mp4_pieces.specs.Pieces.{pieces_from}
 use Rattle.mp4_pieces.specs.PlainPieces.{piece_of, plain_end}
 use Rattle.mp4_pieces.proofs.PieceLemmas.{goes_on, piece_ends}
 use Rattle.mp4_recut.specs.Cursors.{pieces_ahead}
@@ -19,7 +19,7 @@ overflow_cast-number g c =
     let tracks = c.args.tracks.now in
     let at = c.args.c.now in
     let p = piece_of h.bytes at.run c.first-piece.result in
-    let d : FragmentCursor = record { index = at.index; run = at.run; at = cursor_after p; group = next_group at.group } in
+    let d : FragmentCursor = record { index = at.index; run = at.run; at = plain_end p.plain; group = next_group at.group } in
     let first = rw c.bytes.ensures.bytes at c.first-piece.ensures in
     omega (arith, c.requires.last, ap length (fragment_is cut h tracks at p c.requires.at first d refl refl refl refl c.args.number))
 

@@ -2,7 +2,6 @@ use Rattle.std.proofs.Common.{rules, arith, ◌≡◌, ◌∙◌, ◌+◌, [], �
 use Rattle.std.specs.List.{AllByRecursion}
 use Rattle.mp4_pieces.specs.declared.piece.Piece.{Piece}
 use Rattle.mp4_pieces.specs.Pieces.{IsPieceOf, pieces_of}
-use Rattle.mp4_pieces.specs.PlainPieces.{piece_of}
 use Rattle.mp4_pieces.proofs.PieceLemmas.{pieces_are_of}
 use Rattle.mp4_pieces.proofs.PlainLemmas.{plain_is}
 use Rattle.mp4_machine.specs.Ends.{sent}
@@ -14,7 +13,7 @@ use Rattle.mp4_recut.specs.Splitting.{head_of, fragment_end_of}
 use Rattle.mp4_recut.specs.Texts.{media_of}
 use Rattle.mp4_recut.proofs.WholeLemmas.{all_put, emitted_piece, emitted_pieces, more_put, next_is}
 use Rattle.mp4_recut.proofs.whole.put_by_row.Goals as goal
-use Rattle.mp4_recut.proofs.whole.put_by_row.Goals.{After-of-plain, In-Some}
+use Rattle.mp4_recut.proofs.whole.put_by_row.Goals.{In-Some}
 use Rattle.mp4_recut.proofs.whole.put_by_row.Given.{Over}
 
 pub loop-piece-init : goal.loop-piece-init
@@ -37,14 +36,10 @@ loop-piece-init g c =
 of : (g : Over) (c : In-Some g) → IsPieceOf c.args.moof_bytes.now c.args.run.now c.in-Some.piece
 of g c = next_is c.args.moof_bytes.now c.args.run.now c.in-Some.piece c.next.new.self c.loop-piece.piece-iterator c.in-Some.ensures.steps c.loop-piece.invariant.are
 
-same : (g : Over) (c : After-of-plain g) → IsPieceOf c.args.moof_bytes.now c.args.run.now c.in-Some.piece → piece_of c.args.moof_bytes.now c.args.run.now c.of-plain.result ≡ c.in-Some.piece
-same g c of = ap (piece_of c.args.moof_bytes.now c.args.run.now) c.of-plain.ensures ∙ plain_is c.args.moof_bytes.now c.args.run.now c.in-Some.piece of
-
 pub put_piece-requires-clause-piece : goal.put_piece-requires-clause-piece
 put_piece-requires-clause-piece g c =
-    let here = goal.at.put_piece-requires-clause-piece g c in
-    let of = of g here.In-Some in
-    subst (λ (q : Piece). IsPieceOf c.args.moof_bytes.now c.args.run.now q) (sym (same g here.After-of-plain of)) of
+    let of = of g (goal.at.put_piece-requires-clause-piece g c).In-Some in
+    subst (λ (q : Piece). IsPieceOf c.args.moof_bytes.now c.args.run.now q) (sym (plain_is c.args.moof_bytes.now c.args.run.now c.in-Some.piece of)) of
 
 pub returns-in-Err-clause-puts : goal.returns-in-Err-clause-puts
 returns-in-Err-clause-puts g c = λ timescale.
@@ -59,7 +54,7 @@ returns-in-Err-clause-puts g c = λ timescale.
     let rest = emitted_pieces cut moof_bytes run timescale c.requires.plain start payload (n + 1) c.next.new.self in
     let here = goal.at.returns-in-Err-clause-puts g c in
     let failed : HasFailed (sent g.W.Sink.contents g.W.Sink.has_failed c.loop-piece.w c.put_piece.new.w) c.loop-piece.out c.put_piece.new.out (head_of moof_bytes run p n ++ media_of start payload p) (fragment_end_of moof_bytes run p n ∷ []) =
-    subst (λ (q : Piece). HasFailed (sent g.W.Sink.contents g.W.Sink.has_failed c.loop-piece.w c.put_piece.new.w) c.loop-piece.out c.put_piece.new.out (head_of moof_bytes run q n ++ media_of start payload q) (fragment_end_of moof_bytes run q n ∷ [])) (same g here.After-of-plain (of g here.In-Some)) c.in-Err.ensures in
+    subst (λ (q : Piece). HasFailed (sent g.W.Sink.contents g.W.Sink.has_failed c.loop-piece.w c.put_piece.new.w) c.loop-piece.out c.put_piece.new.out (head_of moof_bytes run q n ++ media_of start payload q) (fragment_end_of moof_bytes run q n ∷ [])) (plain_is moof_bytes run p (of g here.In-Some)) c.in-Err.ensures in
     subst (λ (t : Effects). HasFailed (sent g.W.Sink.contents g.W.Sink.has_failed c.args.w.now c.put_piece.new.w) c.args.out.now c.put_piece.new.out t.text t.fragment_ends)
     (more_put cut moof_bytes run timescale c.requires.plain start payload n p c.next.new.self c.loop-piece.piece-iterator c.loop-piece.invariant.effects all c.in-Some.ensures.steps (c.loop-piece.invariant.left timescale))
     (HasFailed-longer rest.text rest.fragment_ends (HasFailed-then c.loop-piece.invariant.put failed))
@@ -76,7 +71,7 @@ loop-piece-preserved g c =
     let effects = c.loop-piece.invariant.effects in
     let here = goal.at.loop-piece-preserved g c in
     let put : HasPut (sent g.W.Sink.contents g.W.Sink.has_failed c.loop-piece.w c.put_piece.new.w) c.loop-piece.out c.put_piece.new.out (head_of moof_bytes run p n ++ media_of start payload p) (fragment_end_of moof_bytes run p n ∷ []) =
-    subst (λ (q : Piece). HasPut (sent g.W.Sink.contents g.W.Sink.has_failed c.loop-piece.w c.put_piece.new.w) c.loop-piece.out c.put_piece.new.out (head_of moof_bytes run q n ++ media_of start payload q) (fragment_end_of moof_bytes run q n ∷ [])) (same g here.After-of-plain (of g here.In-Some)) c.in-Ok.ensures in
+    subst (λ (q : Piece). HasPut (sent g.W.Sink.contents g.W.Sink.has_failed c.loop-piece.w c.put_piece.new.w) c.loop-piece.out c.put_piece.new.out (head_of moof_bytes run q n ++ media_of start payload q) (fragment_end_of moof_bytes run q n ∷ [])) (plain_is moof_bytes run p (of g here.In-Some)) c.in-Ok.ensures in
     record {
       effects = both effects (emitted_piece cut moof_bytes run 0 c.requires.plain start payload n p);
       put = HasPut-then c.loop-piece.invariant.put put;
