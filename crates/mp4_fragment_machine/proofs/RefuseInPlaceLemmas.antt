@@ -29,24 +29,27 @@ use Rattle.mp4_grammar.specs.Items.{end_of, fragment, inspected}
 use Rattle.mp4_grammar.specs.Kinds.{most_moof}
 use Rattle.mp4_grammar.specs.Meanings.{Meaning, fragment_fault}
 use Rattle.mp4_grammar.specs.declared.kinds.Kind.TheVariants.{Moof}
-use Rattle.mp4_fragment_machine.specs.Places.{InHeader, InBuffered, InMdatHeader, continuation_at}
+use Rattle.mp4_fragment_machine.specs.Places.{InHeader, InBuffered, InMdatHeader, Untouched, continuation_at}
 use Rattle.mp4_recut.specs.Operations.{operation_meaning, number_in}
 use Rattle.mp4_recut.specs.declared.operation.Operation.{Operation}
 use Rattle.mp4_recut.specs.declared.operation.Operation.TheVariants as operations
 use Rattle.mp4_grammar.specs.declared.command.Command.TheVariants.{Check, Fragments, Records, Samples}
 use Rattle.mp4_fragment_machine.specs.declared.counter.Counter.{Counter}
-use Rattle.mp4_fragment_machine.specs.States.{HasStopped, IsCounted, cut_most, cut_reads, taken_by}
-use Rattle.mp4_fragment_machine.specs.Implementation.Steps.{Borrowed, StopsIn, at_state, environment_before}
+use Rattle.mp4_fragment_machine.specs.States.{HasCounted, HasStopped, IsCounted, Progress, cut_most, cut_reads, known, taken_by}
+use Rattle.mp4_fragment_machine.specs.Implementation.Feeds.{seen}
+use Rattle.mp4_fragment_machine.specs.Implementation.Steps.{Borrowed, StopsIn, at_state, environment_before, ledger_alone}
 use Rattle.mp4_fragment_machine.specs.declared.state.Carried.{Carried}
 use Rattle.mp4_fragment_machine.specs.declared.state.State.TheVariants as states
-use Rattle.mp4_fragment_machine.specs.Implementation.InPlace.{AreBoxes, payload_in}
+use Rattle.mp4_fragment_machine.specs.Implementation.InPlace.{AreBoxes, IsRefused, Late, Misplaced, payload_in}
 use Rattle.mp4_fragment_machine.specs.declared.pending_moof.PendingMoof.{PendingMoof}
 use Rattle.mp4_fragment_machine.specs.declared.in_place.Boxes.{Boxes}
 use Rattle.mp4_fragment_machine.proofs.MdatHeaderLemmas.{HasRows}
-use Rattle.mp4_fragment_machine.proofs.FragmentLemmas.{first_is, moof_len}
+use Rattle.mp4_fragment_machine.proofs.CountLemmas.{counted_moof, counted_unlisted}
+use Rattle.mp4_fragment_machine.proofs.FragmentLemmas.{first_is, inspected_more, moof_len, single_is, some_moof}
 use Rattle.mp4_fragment_machine.proofs.BufferedBoxLemmas.{Refuses-late}
 use Rattle.mp4_fragment_machine.proofs.SecondLemmas.{misplaced-run, payload-of, second-misplaced}
 use Rattle.mp4_fragment_machine.proofs.SplitLemmas.{Refuses-split}
+use Rattle.mp4_fragment_machine.proofs.StepLemmas.{counted_stop}
 use Rattle.mp4_fragment_machine.proofs.InPlaceLemmas.{GoesOn-held_whole, GoesOn-moof_whole, back_at_once, listed}
 
 module _ (meaning : Meaning) (number : ℕ) (o : Environment) (at : ℕ) (tracks : List Track) (input : List ℕ) (b : Boxes) (are : AreBoxes at input b) (low : 64 * length tracks ≤ o.account.live) where
@@ -187,3 +190,59 @@ few_rows (operations.Split cut) c b i = few_of cut.index c.steps.rows c.tally.in
 -- a moof has few samples where no other rule than that of times is broken
 pub few_samples : (h : MoofBytes) (tracks : List Track) → fault_before_times h tracks ≡ None → moof_samples h ≤ 1000000
 few_samples h tracks good = omega (arith, (few_timed (moof_of h) (count_none h tracks good)).most)
+
+-- ---- a fragment that is refused
+
+module _ {m : Progress} {account : Account} {at : ℕ} {input : List ℕ} {bytes n rows : ℕ} {f : Fault} where
+  pub refused-state : IsRefused m account at input bytes n rows f → m.state ≡ states.Header at
+  refused-state (Late b bad moof_alone once) = bad.boxes.state
+  refused-state (Misplaced b l bad samples with_row twice) = bad.boxes.state
+
+  pub refused-tracks : IsRefused m account at input bytes n rows f → m.tracks ≡ Some (known m.tracks)
+  refused-tracks (Late b bad moof_alone once) = bad.boxes.tracks
+  refused-tracks (Misplaced b l bad samples with_row twice) = bad.boxes.tracks
+
+  -- it may be claimed
+  pub refused-room : IsRefused m account at input bytes n rows f → account.live + bytes ≤ account.limit
+  refused-room (Late b bad moof_alone once) = omega (arith, bad.boxes.room, moof_alone)
+  refused-room (Misplaced b l bad samples with_row twice) = omega (arith, bad.boxes.room, with_row)
+
+  -- it has few samples
+  pub refused-few : IsRefused m account at input bytes n rows f → n ≤ 1000000
+  refused-few (Late b bad moof_alone once) = omega (arith, few_samples (moof_at b.moof.now at) (known m.tracks) bad.good, bad.samples)
+  refused-few (Misplaced b l bad samples with_row twice) = omega (arith, (single_is (moof_at b.moof.now at) (known m.tracks) l bad.single_run).few, samples)
+
+  pub refused-rows : IsRefused m account at input bytes n rows f → rows ≤ 2 * n
+  refused-rows (Late b bad moof_alone once) = omega (arith, once)
+  refused-rows (Misplaced b l bad samples with_row twice) = omega (arith, twice)
+
+-- what it was counted by
+abbrev pub refusing : Carried → (n rows : ℕ) → Carried
+refusing k n rows = record k { counter = record { tally = record k.counter.tally { inspected = k.counter.tally.inspected + n }; steps = record { rows = k.counter.steps.rows + rows } } }
+
+-- a machine stops at it, where its claim was counted
+pub refused-stops : (k : Carried) (u : Untouched) (account account' : Account) (at : ℕ) (input : List ℕ) (bytes n rows : ℕ) (f : Fault) → 64 * length (known k.tracks) ≤ account.live → HasCounted k.operation (states.Header at) k.counter → account' ≡ given_back (claimed account bytes) bytes
+    → IsRefused (seen k (states.Header at)) account at input bytes n rows f → StopsIn (ledger_alone u account account') k (refusing k n rows) (at_state k (states.Header at)) input (Stream f)
+refused-stops k u account account' at input bytes n reads f low counted taken (Late b bad moof_alone once) =
+    let list = known k.tracks in
+    let are = bad.boxes.are in
+    let h = moof_at b.moof.now at in
+    let o = environment u.written u.waiting account k.counter.tally in
+    let tally = inspected_more k.counter.tally h n bad.samples in
+    StopsIn-whole (ledger_alone u account account') k _ at input f list bad.boxes.tracks bad.boxes.empty refl refl refl bad.boxes.empty
+    (rw taken (omega (arith, low)))
+    (counted_stop k.operation _ (at + are.span.size) (counted_moof k.operation k.counter _ h at are.span.size reads 0 counted (some_moof at input b are) are.moof.near (few_samples h list bad.good) tally refl (omega (arith, once, bad.samples)) (omega arith)))
+    (λ more. StopsAt-late (operation_meaning k.operation) (number_in k.operation k.counter.tally) o at list input b are low account' _ (subst (λ z. account' ≡ given_back (claimed account z) z) moof_alone taken) tally more f bad.good bad.late)
+refused-stops k u account account' at input bytes n reads f low counted taken (Misplaced b l bad samples with_row twice) =
+    let list = known k.tracks in
+    let are = bad.boxes.are in
+    let h = moof_at b.moof.now at in
+    let o = environment u.written u.waiting account k.counter.tally in
+    let few = (single_is h list l bad.single_run).few in
+    let all : n ≡ moof_samples h = omega (arith, samples, bad.single_run.samples) in
+    let tally = inspected_more k.counter.tally h n all in
+    StopsIn-whole (ledger_alone u account account') k _ at input f list bad.boxes.tracks bad.boxes.empty refl refl refl bad.boxes.empty
+    (rw taken (omega (arith, low)))
+    (counted_unlisted k.operation _ (at + are.span.size) l.run.count
+    (counted_moof k.operation k.counter _ h at are.span.size reads l.run.count counted (some_moof at input b are) are.moof.near (omega (arith, few, bad.single_run.samples)) tally refl (omega (arith, all, samples, twice)) (omega (arith, bad.single_run.samples))))
+    (λ more. StopsAt-misplaced (operation_meaning k.operation) (number_in k.operation k.counter.tally) o at list input b are low l bad.single_run account' _ (subst (λ z. account' ≡ given_back (claimed account z) z) with_row taken) tally more f bad.misplaced)

@@ -28,7 +28,6 @@ use Rattle.mp4_recut.specs.declared.operation.Operation.TheVariants as operation
 use Rattle.mp4_fragment_machine.specs.States.{Progress, known}
 use Rattle.mp4_fragment_machine.specs.declared.in_place.InPlace.{InPlace}
 use Rattle.mp4_fragment_machine.specs.declared.in_place.InPlace.TheVariants as answers
-use Rattle.mp4_fragment_machine.specs.declared.in_place.CompleteFragment.{CompleteFragment}
 use Rattle.mp4_fragment_machine.specs.declared.in_place.attempt.InPlaceRead.{InPlaceRead}
 use Rattle.mp4_fragment_machine.specs.declared.in_place.many_runs.Untaken.{Untaken}
 use Rattle.mp4_fragment_machine.specs.declared.in_place.many_runs.Untaken.TheVariants as untaken
@@ -128,10 +127,10 @@ pub record HasBoxes (m : Progress) (account : Account) (at : ℕ) (input : List 
   pub room : account.live + (length b.moof.now + 64) ≤ account.limit
 
 -- a fragment of one run, which is taken
-pub record HasOneRun (m : Progress) (account : Account) (at : ℕ) (input : List ℕ) (f : CompleteFragment) : Type 0 where
-  pub boxes : HasBoxes m account at input f.boxes
-  pub is : IsFragment at (known m.tracks) input f.boxes f.run.now
-  pub taken : IsTakenInPlace m.operation m.counter.tally.fragments f.run.now
+pub record HasOneRun (m : Progress) (account : Account) (at : ℕ) (input : List ℕ) (b : Boxes) (l : SingleRun) : Type 0 where
+  pub boxes : HasBoxes m account at input b
+  pub is : IsFragment at (known m.tracks) input b l
+  pub taken : IsTakenInPlace m.operation m.counter.tally.fragments l
 
 -- one with so many samples, whose only fault is a time
 pub record HasTimeFault (m : Progress) (account : Account) (at : ℕ) (input : List ℕ) (b : Boxes) (n : ℕ) (f : Fault) : Type 0 where
@@ -140,11 +139,21 @@ pub record HasTimeFault (m : Progress) (account : Account) (at : ℕ) (input : L
   pub late : least (time_faults (moof_trafs (moof_at b.moof.now at) (known m.tracks))) ≡ Some f
   pub samples : n ≡ moof_samples (moof_at b.moof.now at)
 
--- one whose run doesn't lie in its mdat
-pub record HasPlaceFault (m : Progress) (account : Account) (at : ℕ) (input : List ℕ) (l : CompleteFragment) (f : Fault) : Type 0 where
-  pub boxes : HasBoxes m account at input l.boxes
-  pub single_run : IsSingle (moof_at l.boxes.moof.now at) (known m.tracks) l.run.now
-  pub misplaced : place_fault (payload_in (at + boxes.are.span.size) l.boxes.mdat) (l.run.now.run ∷ []) ≡ Some f
+-- one whose only run doesn't lie in its mdat
+pub record HasPlaceFault (m : Progress) (account : Account) (at : ℕ) (input : List ℕ) (b : Boxes) (l : SingleRun) (f : Fault) : Type 0 where
+  pub boxes : HasBoxes m account at input b
+  pub single_run : IsSingle (moof_at b.moof.now at) (known m.tracks) l
+  pub misplaced : place_fault (payload_in (at + boxes.are.span.size) b.mdat) (l.run ∷ []) ≡ Some f
+
+-- either, of so many samples, is refused after a claim of so many bytes and so many reads of rows: for a time the moof is claimed and each
+-- sample is read once; for a place a row of a list is claimed too, and each is read twice
+pub data IsRefused (m : Progress) (account : Account) (at : ℕ) (input : List ℕ) (bytes n rows : ℕ) (f : Fault) : Type 0 where
+  Late :
+      (b : Boxes) → HasTimeFault m account at input b n f
+      → bytes ≡ length b.moof.now → rows ≡ n → IsRefused m account at input bytes n rows f
+  Misplaced :
+      (b : Boxes) (l : SingleRun) → HasPlaceFault m account at input b l f → n ≡ l.run.count
+      → bytes ≡ length b.moof.now + 64 → rows ≡ 2 * n → IsRefused m account at input bytes n rows f
 
 -- what the answer says
 abbrev pub IsFoundInPlace : Progress → ℕ → List ℕ → InPlace → Type 0

@@ -52,15 +52,6 @@ pub(crate) struct Boxes<'a> {
     pub(crate) mdat: Span,
 }
 
-/// A fragment that is whole in the input.
-#[derive(Clone, Copy)]
-pub(crate) struct CompleteFragment<'a> {
-    /// Its boxes.
-    pub(crate) boxes: Boxes<'a>,
-    /// The only run of its moof.
-    pub(crate) run: &'a SingleRun,
-}
-
 /// What the input has whole at its front.
 #[derive(Clone, Copy)]
 pub(crate) enum InPlace {
@@ -105,10 +96,15 @@ impl FragmentMachine {
                 let mut steps = Steps { rows: 0 };
                 match SingleRun::read(boxes.moof, at, list, &mut steps) {
                     Ok(Some(run)) => {
-                        let complete = CompleteFragment { boxes, run: &run };
                         return match run.places(payload) {
-                            Ok(()) => self.take_one_run(at, &complete, ledger, input, out, w),
-                            Err(fault) => Err(self.refuse_misplaced(&complete, fault, ledger)),
+                            Ok(()) => self.take_one_run(at, &boxes, &run, ledger, input, out, w),
+                            Err(fault) => {
+                                let claimed = boxes.moof.len() as u64 + ROW;
+                                let samples = u128::from(run.run.count);
+                                Err(self.refuse_fragment(
+                                    claimed, samples, steps.rows, fault, ledger,
+                                ))
+                            }
                         };
                     }
                     Ok(None) => {
@@ -121,7 +117,10 @@ impl FragmentMachine {
                         };
                     }
                     Err(fault) => {
-                        return Err(self.refuse_late(&boxes, steps.rows, fault, ledger));
+                        let claimed = boxes.moof.len() as u64;
+                        return Err(self.refuse_fragment(
+                            claimed, steps.rows, steps.rows, fault, ledger,
+                        ));
                     }
                 }
             }

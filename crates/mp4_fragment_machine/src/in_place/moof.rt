@@ -9,7 +9,7 @@ ghost use Rattle.mp4_machine.specs.Inputs.{change};
 ghost use Rattle.mp4_fragment_machine.specs.Places.{Untouched, claim_of};
 ghost use Rattle.mp4_fragment_machine.specs.States.{known, place_in};
 ghost use Rattle.mp4_fragment_machine.specs.Implementation.Feeds.{Feeds};
-ghost use Rattle.mp4_fragment_machine.specs.Implementation.Steps.{AcceptsMoofPast, CanStep, Consumes, borrowed, ledger_alone};
+ghost use Rattle.mp4_fragment_machine.specs.Implementation.Steps.{AcceptsMoofPast, CanStep, ledger_alone};
 ghost use Rattle.mp4_fragment_machine.specs.Implementation.InPlace.{HasMoof, IsFirstBox, WasReadInPlace};
 ghost use Rattle.mp4_fragment_machine.specs.declared.state.State.TheVariants as states;
 
@@ -62,59 +62,13 @@ fn buffer_in_place(
     }
 }
 
-/// Takes the moof that is whole at the front of the input, and the bytes there are of the header after it. `found` as
-/// in [`accept_moof`].
-///
-/// # Errors
-///
-/// `OverLimit` or `Memory` where a claim is refused, and as [`accept_moof`] and [`take_mdat_header`].
-fn take_moof_in_place<W: Sink>(
-    at: u64,
-    moof: &Span,
-    input: &[u8],
-    found: Option<InPlaceRead>,
-    carried: &mut Carried,
-    ledger: &mut Ledger,
-    out: &mut Block,
-    w: &mut W,
-) -> Result<Taken, Stop>
-    requires is { IsFirstBox Moof at input.now moof.now }
-    requires most { moof.now.size ≤ most_moof }
-    requires known { carried.old.tracks ≡ Some (known carried.old.tracks) }
-    requires empty { carried.old.header_bytes ≡ [] }
-    requires can { CanStep carried.old ledger.old (states.Header at) }
-    requires found { IfSome found (WasReadInPlace (moof_at (take moof.now.size input.now) at)
-        (known carried.old.tracks)) }
-    ensures { Consumes (borrowed W.contents W.has_failed w.old w.new out.old out.new ledger.old ledger.new)
-        carried.old carried.new (states.Header at) input.now result }
-{
-    let pending_moof = match buffer_in_place(at, moof, input, found, carried, ledger) {
-        Ok(pending_moof) => pending_moof,
-        Err(stop) => return Err(stop),
-    };
-    if moof.size == input.len() as u64 {
-        return Ok(Taken {
-            count: input.len(),
-            state: State::MdatHeader(pending_moof),
-        });
-    }
-    let (_, rest) = input.split_at(moof.size as usize);
-    match take_mdat_header(pending_moof, rest, carried, ledger, out, w) {
-        Ok(Taken { count, state }) => Ok(Taken {
-            count: moof.size as usize + count,
-            state,
-        }),
-        Err(stop) => Err(stop),
-    }
-}
-
 impl FragmentMachine {
     /// Takes the moof that is whole at the front of the input, and the bytes there are of the header after it. Returns
     /// how many bytes. `found` as in [`accept_moof`].
     ///
     /// # Errors
     ///
-    /// As [`take_moof_in_place`].
+    /// `OverLimit` or `Memory` where a claim is refused, and as [`accept_moof`] and [`take_mdat_header`].
     pub(crate) fn take_moof<W: Sink>(
         &mut self,
         at: u64,
@@ -133,10 +87,29 @@ impl FragmentMachine {
             ledger.old ledger.new self.old.counter.tally self.new.counter.tally)
             self.old self.new input.now result }
     {
-        match take_moof_in_place(at, moof, input, found, &mut self.carried, ledger, out, w) {
+        let pending_moof = match buffer_in_place(
+            at,
+            moof,
+            input,
+            found,
+            &mut self.carried,
+            ledger,
+        ) {
+            Ok(pending_moof) => pending_moof,
+            Err(stop) => {
+                stop_at(&mut self.state, &mut self.carried, ledger);
+                return Err(stop);
+            }
+        };
+        if moof.size == input.len() as u64 {
+            leave_header(&mut self.state, State::MdatHeader(pending_moof));
+            return Ok(input.len());
+        }
+        let (_, rest) = input.split_at(moof.size as usize);
+        match take_mdat_header(pending_moof, rest, &mut self.carried, ledger, out, w) {
             Ok(Taken { count, state }) => {
                 leave_header(&mut self.state, state);
-                Ok(count)
+                Ok(moof.size as usize + count)
             }
             Err(stop) => {
                 stop_at(&mut self.state, &mut self.carried, ledger);

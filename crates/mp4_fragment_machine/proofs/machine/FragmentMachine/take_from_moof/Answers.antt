@@ -1,11 +1,9 @@
-use Rattle.std.proofs.Common.{◌≡◌, ◌∙◌, ◌+◌, ◌∷◌, [], None, Ok, Some, ap, arith, subst, sym}
+use Rattle.std.proofs.Common.{◌≡◌, ◌∙◌, ℕ, ◌+◌, ◌∷◌, [], length, None, Ok, Some, ap, arith, refl, subst, sym}
 use Rattle.mp4_init.specs.Moovs.{fault_of}
 use Rattle.mp4_frag.specs.Places.{place_fault}
 use Rattle.mp4_traf.specs.Runs.{moof_at}
 use Rattle.mp4_fragment_machine.proofs.FragmentLemmas.{single_is, moof_len, moof_whole}
-use Rattle.mp4_frag.specs.SingleRuns.{IsSingle}
-use Rattle.mp4_fragment_machine.specs.States.{known}
-use Rattle.mp4_fragment_machine.specs.Implementation.InPlace.{HasTimeFault, payload_in}
+use Rattle.mp4_fragment_machine.specs.Implementation.InPlace.{IsRefused, Late, Misplaced}
 use Rattle.mp4_fragment_machine.proofs.machine.FragmentMachine.take_from_moof.Given.{Over}
 use Rattle.mp4_fragment_machine.proofs.machine.FragmentMachine.take_from_moof.Goals as goal
 use Rattle.mp4_fragment_machine.proofs.machine.FragmentMachine.take_from_moof.Goals.{In-Err, In-Err-places}
@@ -33,58 +31,48 @@ take_one_run-requires-clause-found g c =
       taken = rw (← c.self.view_is) (c.tries_in_place.ensures run c.if-tries_in_place.true (single_is (moof_at boxes.moof.now c.args.at) c.in-Some-Some.list run single_run).few);
     })
 
--- whose run it is, and that it doesn't lie where it may
-misplaced : (g : Over) (c : In-Err-places g) → let boxes = c.in-Some-Some.boxes in let run = c.in-Ok-Some.run' in
-    IsSingle (moof_at boxes.moof.now c.args.at) (known c.args.self.now.tracks) run × (place_fault (payload_in (c.args.at + c.in-Some-Some.ensures.are.span.size) boxes.mdat) (run.run ∷ []) ≡ Some c.in-Err-places.fault)
-misplaced g c =
+-- its only run doesn't lie where it may
+misplaced : (g : Over) (c : In-Err-places g) (n : ℕ) → n ≡ c.in-Ok-Some.run'.run.count → IsRefused c.args.self.now c.args.ledger.now c.args.at c.args.input.now (length c.in-Some-Some.boxes.moof.now + 64) n c.read.new.steps.rows c.in-Err-places.fault
+misplaced g c n is =
     let run = c.in-Ok-Some.run' in
-    let single_run = c.in-Ok-Some.ensures.single_run run (ap Ok c.in-Ok-Some.field-0-is) in
-    let placed = rw c.in-Ok-Some.run-is at c.places.ensures in (
-      rw (← c.self.view_is, c.in-Some-Some.is-1) single_run,
-      subst (λ p. place_fault p (run.run ∷ []) ≡ Some c.in-Err-places.fault) (c.payload_after-payload.ensures c.args.input.now c.in-Some-Some.ensures.are) (sym placed ∙ ap fault_of c.in-Err-places.is),
-    )
-
-pub refuse_misplaced-requires-clause-found : goal.refuse_misplaced-requires-clause-found
-refuse_misplaced-requires-clause-found g c =
+    let boxes = c.in-Some-Some.boxes in
     let first = c.requires.first in
-    let is = misplaced g (goal.at.refuse_misplaced-requires-clause-found g c).In-Err-places in (
-      c.args.at,
-      c.args.input.now,
-      rw c.in-Ok-Some.run-is (record {
-        boxes = record { state = first.state; empty = first.empty; tracks = first.tracks; are = c.in-Some-Some.ensures.are; room = c.in-Some-Some.ensures.room };
-        single_run = is.0;
-        misplaced = is.1;
-      }),
-    )
+    let single_run = c.in-Ok-Some.ensures.single_run run (ap Ok c.in-Ok-Some.field-0-is) in
+    let read = c.in-Ok-Some.ensures.rows_read run (ap Ok c.in-Ok-Some.field-0-is) in
+    let placed = rw c.in-Ok-Some.run-is at c.places.ensures in
+    Misplaced boxes run
+    (record {
+      boxes = record { state = first.state; empty = first.empty; tracks = first.tracks; are = c.in-Some-Some.ensures.are; room = c.in-Some-Some.ensures.room };
+      single_run = rw (← c.self.view_is, c.in-Some-Some.is-1) single_run;
+      misplaced = subst (λ p. place_fault p (run.run ∷ []) ≡ Some c.in-Err-places.fault) (c.payload_after-payload.ensures c.args.input.now c.in-Some-Some.ensures.are) (sym placed ∙ ap fault_of c.in-Err-places.is);
+    }) is refl (omega (arith, read, single_run.samples, is))
 
 -- its only fault is a time
-late : (g : Over) (c : In-Err g) → HasTimeFault c.args.self.now c.args.ledger.now c.args.at c.args.input.now c.in-Some-Some.boxes c.read.new.steps.rows c.in-Err.fault
+late : (g : Over) (c : In-Err g) → IsRefused c.args.self.now c.args.ledger.now c.args.at c.args.input.now (length c.in-Some-Some.boxes.moof.now) c.read.new.steps.rows c.read.new.steps.rows c.in-Err.fault
 late g c =
     let first = c.requires.first in
     let late = c.read.ensures.late c.in-Err.fault c.in-Err.is in
-    record {
+    Late c.in-Some-Some.boxes
+    (record {
       boxes = record { state = first.state; empty = first.empty; tracks = first.tracks; are = c.in-Some-Some.ensures.are; room = c.in-Some-Some.ensures.room };
       good = rw (← c.self.view_is, c.in-Some-Some.is-1) late.0;
       late = rw (← c.self.view_is, c.in-Some-Some.is-1) late.1;
       samples = omega (arith, rw c.in-Err.is at c.read.ensures.refused);
-    }
+    }) refl refl
 
-pub refuse_late-requires-clause-found : goal.refuse_late-requires-clause-found
-refuse_late-requires-clause-found g c = (c.args.at, c.args.input.now, late g (goal.at.refuse_late-requires-clause-found g c).In-Err)
+pub refuse_fragment-requires-clause-refused : goal.refuse_fragment-requires-clause-refused
+refuse_fragment-requires-clause-refused g c = (c.args.at, c.args.input.now, misplaced g (goal.at.refuse_fragment-requires-clause-refused g c).In-Err-places c.from-samples.result c.from-samples.ensures)
+
+pub refuse_fragment-requires-in-Err-clause-refused : goal.refuse_fragment-requires-in-Err-clause-refused
+refuse_fragment-requires-in-Err-clause-refused g c = (c.args.at, c.args.input.now, late g (goal.at.refuse_fragment-requires-in-Err-clause-refused g c).In-Err)
 
 pub returns-in-Err-places : goal.returns-in-Err-places
 returns-in-Err-places g c =
-    let first = c.requires.first in
-    let is = misplaced g (goal.at.returns-in-Err-places g c).In-Err-places in
-    c.refuse_misplaced.ensures.ended (record { written = g.W.Sink.contents c.args.w.now; waiting = c.args.out.now; failed = g.W.Sink.has_failed c.args.w.now }) c.args.at c.args.input.now (rw c.in-Ok-Some.run-is (record {
-      boxes = record { state = first.state; empty = first.empty; tracks = first.tracks; are = c.in-Some-Some.ensures.are; room = c.in-Some-Some.ensures.room };
-      single_run = is.0;
-      misplaced = is.1;
-    }))
+    c.refuse_fragment.ensures.ended (record { written = g.W.Sink.contents c.args.w.now; waiting = c.args.out.now; failed = g.W.Sink.has_failed c.args.w.now }) c.args.at c.args.input.now (misplaced g (goal.at.returns-in-Err-places g c).In-Err-places c.from-samples.result c.from-samples.ensures)
 
 pub returns-in-Err : goal.returns-in-Err
 returns-in-Err g c =
-    c.refuse_late.ensures.ended (record { written = g.W.Sink.contents c.args.w.now; waiting = c.args.out.now; failed = g.W.Sink.has_failed c.args.w.now }) c.args.at c.args.input.now (late g (goal.at.returns-in-Err g c).In-Err)
+    c.refuse_fragment-in-Err.ensures.ended (record { written = g.W.Sink.contents c.args.w.now; waiting = c.args.out.now; failed = g.W.Sink.has_failed c.args.w.now }) c.args.at c.args.input.now (late g (goal.at.returns-in-Err g c).In-Err)
 
 pub list_in_place-requires-clause-found : goal.list_in_place-requires-clause-found
 list_in_place-requires-clause-found g c =

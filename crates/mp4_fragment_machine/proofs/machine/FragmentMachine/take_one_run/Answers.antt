@@ -25,25 +25,26 @@ after g c = record { operation = c.match-self-2.self-inside.1.0.0; tracks = Some
 abbrev stopped : (g : Over) → After-stop_at g → Carried
 stopped g c = record { operation = c.match-self-2.self-inside.1.0.0; tracks = Some c.in-Some.list; header_bytes = c.match-self-2.self-inside.1.0.1.1.0; counter = c.match-self-2.self-inside.1.0.1.1.1.0 }
 
-takes : (g : Over) (c : After-go_to g) → let n = length c.args.complete.now.boxes.moof.now + c.args.complete.now.boxes.mdat.size in
+takes : (g : Over) (c : After-go_to g) → let n = length c.args.boxes.now.moof.now + c.args.boxes.now.mdat.size in
     (0 < n) × (n ≤ length c.args.input.now)
     × GoesTo (borrowed g.W.Sink.contents g.W.Sink.has_failed c.args.w.now c.match-self-2.w c.args.out.now c.match-self-2.out c.args.ledger.now c.count_allowed.new.ledger) c.self.inside.carried (after g c)
     (at_state c.self.inside.carried (states.Header c.args.at)) (take n c.args.input.now) (states.Header (c.args.at + n))
 takes g c =
     let carried = c.self.inside.carried in
     let list = c.in-Some.list in
-    let f = c.args.complete.now in
+    let b = c.args.boxes.now in
+    let l = c.args.single_run.now in
     let at = c.args.at in
     let input = c.args.input.now in
-    let found : HasOneRun _ c.args.ledger.now at input f = rw (← c.self.view_is) at c.requires.found in
+    let found : HasOneRun _ c.args.ledger.now at input b l = rw (← c.self.view_is) at c.requires.found in
     let is = rw c.in-Some.is at found.is in
     let state : c.self.inside.state ≡ states.Header at = found.boxes.state in
     let claim = rw (← c.self.view_is, state, c.in-Some.is) at c.requires.claim in
     let counted = (rw state at c.self.invariant).1 in
     let o = environment (g.W.Sink.contents c.args.w.now) c.args.out.now c.args.ledger.now carried.counter.tally in
-    let fit = boxes_fit at input f.boxes is.boxes in
-    let some = some_moof at input f.boxes is.boxes in
-    let long = moof_len at input f.boxes is.boxes in
+    let fit = boxes_fit at input b is.boxes in
+    let some = some_moof at input b is.boxes in
+    let long = moof_len at input b is.boxes in
     let len = rw c.settle.ensures.tracks at c.settle.ensures.len in (
       omega (arith, some, long),
       omega (arith, fit.whole),
@@ -51,26 +52,26 @@ takes g c =
         | in-List w ↦
             let effects = w.list_run-put.ensures in
             let put = rw (sym w.put-is ∙ c.in-Ok.is) at (effects.puts is.boxes.mdat.header is.boxes.mdat.sized) in
-            let there : at + length f.boxes.moof.now + f.boxes.mdat.size ≡ at + (length f.boxes.moof.now + f.boxes.mdat.size) = omega arith in
-            rw (w.self-inside-is, w.out-is, w.w-is, c.in-Some.is, w.in-List.is, found.boxes.empty, c.settle.ensures.tracks) (record { step = record { goes = GoesOn-it at list input f.boxes f.run.now is w.in-List.command 1 o claim (g.W.Sink.contents w.list_run-put.new.w) w.list_run-put.new.out c.count_allowed.new.ledger w.list_run-put.new.counter.tally c.count_allowed.ensures (effects.tally is.boxes.mdat.header) put.passes; unfailed = put.unfailed; claim = rw c.count_allowed.ensures (omega (arith, claim, len)) }; operation = refl; state = (no_head [] refl, omega (arith, fit.near)); counted = subst (λ k. IsCounted (operations.List w.in-List.command) w.list_run-put.new.counter k 0 0) there effects.counted })
+            let there : at + length b.moof.now + b.mdat.size ≡ at + (length b.moof.now + b.mdat.size) = omega arith in
+            rw (w.self-inside-is, w.out-is, w.w-is, c.in-Some.is, w.in-List.is, found.boxes.empty, c.settle.ensures.tracks) (record { step = record { goes = GoesOn-it at list input b l is w.in-List.command 1 o claim (g.W.Sink.contents w.list_run-put.new.w) w.list_run-put.new.out c.count_allowed.new.ledger w.list_run-put.new.counter.tally c.count_allowed.ensures (effects.tally is.boxes.mdat.header) put.passes; unfailed = put.unfailed; claim = rw c.count_allowed.ensures (omega (arith, claim, len)) }; operation = refl; state = (no_head [] refl, omega (arith, fit.near)); counted = subst (λ k. IsCounted (operations.List w.in-List.command) w.list_run-put.new.counter k 0 0) there effects.counted })
         | in-Split w ↦
             let cut = w.in-Split.cut in
             let taken = rw w.in-Split.is at found.taken in
             let t = w.recut_run-put.new.counter.tally in
             let effects = w.recut_run-put.ensures in
-            let put = rw (sym w.put-is ∙ c.in-Ok.is) at (effects.puts (timescale_of list f.run.now.run.track)) in
+            let put = rw (sym w.put-is ∙ c.in-Ok.is) at (effects.puts (timescale_of list l.run.track)) in
             let number = rw (sym w.put-is ∙ c.in-Ok.is) at effects.number in
             rw (w.self-inside-is, w.out-is, w.w-is, c.in-Some.is, w.in-Split.is, found.boxes.empty, c.settle.ensures.tracks) (record {
               step = record {
-                goes = GoesOn-recut_whole cut o at list input f.boxes f.run.now is taken.0 taken.1 claim (g.W.Sink.contents w.recut_run-put.new.w) w.recut_run-put.new.out c.count_allowed.new.ledger t c.count_allowed.ensures
+                goes = GoesOn-recut_whole cut o at list input b l is taken.0 taken.1 claim (g.W.Sink.contents w.recut_run-put.new.w) w.recut_run-put.new.out c.count_allowed.new.ledger t c.count_allowed.ensures
                     (ap (λ k. k.samples) effects.tally) (ap (λ k. k.media_bytes) effects.tally) (ap (λ k. k.inspected) effects.tally) number put.passes;
                 unfailed = put.unfailed;
                 claim = rw c.count_allowed.ensures (omega (arith, claim, len));
               };
               operation = refl;
               state = (no_head [] refl, omega (arith, fit.near));
-              counted = counted_in_place cut at list input f.boxes f.run.now is carried.counter w.recut_run-put.new.counter taken.0 (rw w.in-Split.is at counted)
-                  (omega (arith, effects.most, taken.1, few_pieces cut f.boxes.moof.now f.run.now.run))
+              counted = counted_in_place cut at list input b l is carried.counter w.recut_run-put.new.counter taken.0 (rw w.in-Split.is at counted)
+                  (omega (arith, effects.most, taken.1, few_pieces cut b.moof.now l.run))
                   (ap (λ k. k.samples) effects.tally) (ap (λ k. k.media_bytes) effects.tally) (ap (λ k. k.inspected) effects.tally) effects.steps;
             })
       ],
@@ -82,10 +83,11 @@ stops : (g : Over) (c : After-stop_at g) →
 stops g c =
     let carried = c.self.inside.carried in
     let list = c.in-Some.list in
-    let f = c.args.complete.now in
+    let b = c.args.boxes.now in
+    let l = c.args.single_run.now in
     let at = c.args.at in
     let input = c.args.input.now in
-    let found : HasOneRun _ c.args.ledger.now at input f = rw (← c.self.view_is) at c.requires.found in
+    let found : HasOneRun _ c.args.ledger.now at input b l = rw (← c.self.view_is) at c.requires.found in
     let is = rw c.in-Some.is at found.is in
     let state : c.self.inside.state ≡ states.Header at = found.boxes.state in
     let claim = rw (← c.self.view_is, state, c.in-Some.is) at c.requires.claim in
@@ -97,7 +99,7 @@ stops g c =
           let put = rw (sym w.put-is ∙ c.in-Err.is) at (effects.puts is.boxes.mdat.header is.boxes.mdat.sized) in
           rw (w.self-inside-is, w.out-is, w.w-is, c.in-Some.is, w.in-List.is, found.boxes.empty) (record {
             step = record {
-              stops = λ more. StopsAt-it at list input f.boxes f.run.now is w.in-List.command 1 o claim (g.W.Sink.contents w.list_run-put.new.w) w.list_run-put.new.out c.count_allowed.new.ledger w.list_run-put.new.counter.tally c.count_allowed.ensures (effects.tally is.boxes.mdat.header) more put.breaks;
+              stops = λ more. StopsAt-it at list input b l is w.in-List.command 1 o claim (g.W.Sink.contents w.list_run-put.new.w) w.list_run-put.new.out c.count_allowed.new.ledger w.list_run-put.new.counter.tally c.count_allowed.ensures (effects.tally is.boxes.mdat.header) more put.breaks;
               failed = λ _. put.failed;
               unfailed = λ other. absurd (other refl);
             };
@@ -105,20 +107,20 @@ stops g c =
             tracks = refl;
             empty = refl;
             left = rw c.count_allowed.ensures (omega (arith, claim));
-            counted = counted_stop (operations.List w.in-List.command) w.list_run-put.new.counter (at + length f.boxes.moof.now + f.boxes.mdat.size) effects.counted;
+            counted = counted_stop (operations.List w.in-List.command) w.list_run-put.new.counter (at + length b.moof.now + b.mdat.size) effects.counted;
           })
       | in-Split w ↦
           let cut = w.in-Split.cut in
           let taken = rw w.in-Split.is at found.taken in
           let t = w.recut_run-put.new.counter.tally in
           let effects = w.recut_run-put.ensures in
-          let put = rw (sym w.put-is ∙ c.in-Err.is) at (effects.puts (timescale_of list f.run.now.run.track)) in
-          let counted = counted_in_place cut at list input f.boxes f.run.now is carried.counter w.recut_run-put.new.counter taken.0 (rw w.in-Split.is at counted)
-          (omega (arith, effects.most, taken.1, few_pieces cut f.boxes.moof.now f.run.now.run))
+          let put = rw (sym w.put-is ∙ c.in-Err.is) at (effects.puts (timescale_of list l.run.track)) in
+          let counted = counted_in_place cut at list input b l is carried.counter w.recut_run-put.new.counter taken.0 (rw w.in-Split.is at counted)
+          (omega (arith, effects.most, taken.1, few_pieces cut b.moof.now l.run))
           (ap (λ k. k.samples) effects.tally) (ap (λ k. k.media_bytes) effects.tally) (ap (λ k. k.inspected) effects.tally) effects.steps in
           rw (w.self-inside-is, w.out-is, w.w-is, c.in-Some.is, w.in-Split.is, found.boxes.empty) (record {
             step = record {
-              stops = λ more. StopsAt-recut_whole cut o at list input f.boxes f.run.now is taken.0 taken.1 claim (g.W.Sink.contents w.recut_run-put.new.w) w.recut_run-put.new.out c.count_allowed.new.ledger t c.count_allowed.ensures
+              stops = λ more. StopsAt-recut_whole cut o at list input b l is taken.0 taken.1 claim (g.W.Sink.contents w.recut_run-put.new.w) w.recut_run-put.new.out c.count_allowed.new.ledger t c.count_allowed.ensures
                   (ap (λ k. k.samples) effects.tally) (ap (λ k. k.media_bytes) effects.tally) (ap (λ k. k.inspected) effects.tally) more effects.least effects.most put.breaks;
               failed = λ _. put.failed;
               unfailed = λ other. absurd (other refl);
@@ -127,13 +129,13 @@ stops g c =
             tracks = refl;
             empty = refl;
             left = rw c.count_allowed.ensures (omega (arith, claim));
-            counted = counted_stop (operations.Split cut) w.recut_run-put.new.counter (at + (length f.boxes.moof.now + f.boxes.mdat.size)) counted;
+            counted = counted_stop (operations.Split cut) w.recut_run-put.new.counter (at + (length b.moof.now + b.mdat.size)) counted;
           })
     ]
 
 pub returns-in-Ok : goal.returns-in-Ok
 returns-in-Ok g c =
-    let n = length c.args.complete.now.boxes.moof.now + c.args.complete.now.boxes.mdat.size in
+    let n = length c.args.boxes.now.moof.now + c.args.boxes.now.mdat.size in
     let state : c.self.inside.state ≡ states.Header c.args.at = ap (λ (p : Progress). p.state) c.self.view_is ∙ c.requires.found.boxes.state in
     let l = borrowed g.W.Sink.contents g.W.Sink.has_failed c.args.w.now c.match-self-2.w c.args.out.now c.match-self-2.out c.args.ledger.now c.count_allowed.new.ledger in
     rw (← c.self.view_is, state, c.go_to.ensures)
