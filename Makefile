@@ -54,7 +54,7 @@ test:
 	@echo "proving everything from nothing and running the tests: one to 2.5 hours on 4 cores" >&2
 	@scripts/counted scripts/prove_all
 	@if command -v cc > /dev/null; then \
-	    scripts/counted scripts/refused_allocations && scripts/lib && scripts/counted c/tests/short_tests; fi
+	    scripts/counted scripts/refused_allocations && JOBS=1 scripts/lib && scripts/counted c/tests/short_tests; fi
 	@if command -v valgrind > /dev/null; then scripts/counted bench/instructions "as written" --room 3; fi
 	@scripts/left_out
 
