@@ -38,20 +38,15 @@ mod stream;
 mod task;
 mod task_feeder;
 
-pub use answer::Answer;
-pub use asked::Asked;
-pub use engine::Engine;
 pub use exports::{
     fmp4_close, fmp4_feed, fmp4_feed_take, fmp4_finish, fmp4_pending, fmp4_take, fmp4_totals,
 };
 pub use fragments::fmp4_next_fragment;
 pub use front::{fmp4_peek, fmp4_skip};
-pub use handle::Handle;
 pub use names::{fmp4_answer_name, fmp4_rule_name, fmp4_version};
 pub use opening::{fmp4_check_open_as, fmp4_cut_open_as, fmp4_list_open_as, fmp4_split_open_as};
 pub use report::Report;
 pub use request::CutRequest;
-pub use results::{Feed, FeedTake, Front};
 pub use settings::{fmp4_reset, fmp4_set_limit};
 pub use stream::Stream;
 pub use task::Task;
