@@ -51,7 +51,7 @@ test:
 	@if command -v python3 > /dev/null; then \
 	    scripts/counted scripts/words && scripts/counted scripts/check_edits && \
 	    scripts/counted scripts/pictures --check crates states in_place inputs; fi
-	@echo "proving everything from nothing and running the tests: one to 2.5 hours on 4 cores" >&2
+	@echo "proving everything from nothing and running the tests: one to three hours on 4 cores" >&2
 	@scripts/counted scripts/prove_all
 	@if command -v cc > /dev/null; then \
 	    scripts/counted scripts/refused_allocations && JOBS=1 scripts/lib && scripts/counted c/tests/short_tests; fi
