@@ -55,13 +55,11 @@ fn tree_of(bytes: &[u8], offset: u64) -> Option<Result<(), Fault>> {
     Some(check_tree(bytes, offset))
 }
 
-fn check(
-    rt: &impl Abort,
-    bytes: &[u8],
-    offset: u64,
-    expected: Option<Result<(), Fault>>,
-) -> Result<(), Fail> {
-    assert_eq!(rt; tree_of(bytes, offset), expected);
+/// Checks trees, each by its bytes and where they begin.
+fn check(rt: &impl Abort, rows: &[(&[u8], u64, Option<Result<(), Fault>>)]) -> Result<(), Fail> {
+    for (bytes, offset, expected) in rows {
+        assert_eq!(rt; tree_of(bytes, *offset), *expected, "{bytes:?}");
+    }
     Ok(())
 }
 
@@ -70,63 +68,74 @@ fn fault(rule: Rule, kind: &[u8; 4], offset: u64) -> Option<Result<(), Fault>> {
     Some(Err(Fault { rule, kind, offset }))
 }
 
-#[test]
-fn nested_boxes(rt: HostRuntime) -> Result<(), Fail> {
-    let nine = b"\0\0\0\x48moov\0\0\0\x40trak\0\0\0\x38trak\0\0\0\x30trak\0\0\0\x28trak\
-        \0\0\0\x20trak\0\0\0\x18trak\0\0\0\x10trak\0\0\0\x08trak";
-    check(&rt, nine, 0, fault(Rule::Depth, b"trak", 64))?;
-    let eight = b"\0\0\0\x40moov\0\0\0\x38trak\0\0\0\x30trak\0\0\0\x28trak\
-        \0\0\0\x20trak\0\0\0\x18trak\0\0\0\x10trak\0\0\0\x08trak";
-    check(&rt, eight, 0, Some(Ok(())))?;
-    // A bad size comes before a box that is too deep, even if that is earlier.
-    let both = b"\0\0\0\x50moov\0\0\0\x40trak\0\0\0\x38trak\0\0\0\x30trak\0\0\0\x28trak\
-        \0\0\0\x20trak\0\0\0\x18trak\0\0\0\x10trak\0\0\0\x08trak\0\0\0\x07free";
-    check(&rt, both, 0, fault(Rule::BadSize, b"free", 72))?;
-    // At depth 9 the header must still be good.
-    let cut = b"\0\0\0\x43moov\0\0\0\x3btrak\0\0\0\x33trak\0\0\0\x2btrak\0\0\0\x23trak\
-        \0\0\0\x1btrak\0\0\0\x13trak\0\0\0\x0btrak\0\0\0";
-    let none = Fault {
+/// The fault of a header at this offset that has no type.
+fn no_header(offset: u64) -> Option<Result<(), Fault>> {
+    Some(Err(Fault {
         rule: Rule::BadSize,
         kind: None,
-        offset: 64,
-    };
-    check(&rt, cut, 0, Some(Err(none)))?;
-    Ok(())
+        offset,
+    }))
+}
+
+#[test]
+fn nested_boxes(rt: HostRuntime) -> Result<(), Fail> {
+    const NINE: &[u8] = b"\0\0\0\x48moov\0\0\0\x40trak\0\0\0\x38trak\0\0\0\x30trak\0\0\0\x28trak\
+        \0\0\0\x20trak\0\0\0\x18trak\0\0\0\x10trak\0\0\0\x08trak";
+    const EIGHT: &[u8] = b"\0\0\0\x40moov\0\0\0\x38trak\0\0\0\x30trak\0\0\0\x28trak\
+        \0\0\0\x20trak\0\0\0\x18trak\0\0\0\x10trak\0\0\0\x08trak";
+    const BOTH: &[u8] = b"\0\0\0\x50moov\0\0\0\x40trak\0\0\0\x38trak\0\0\0\x30trak\0\0\0\x28trak\
+        \0\0\0\x20trak\0\0\0\x18trak\0\0\0\x10trak\0\0\0\x08trak\0\0\0\x07free";
+    const CUT: &[u8] = b"\0\0\0\x43moov\0\0\0\x3btrak\0\0\0\x33trak\0\0\0\x2btrak\0\0\0\x23trak\
+        \0\0\0\x1btrak\0\0\0\x13trak\0\0\0\x0btrak\0\0\0";
+    check(
+        &rt,
+        &[
+            (NINE, 0, fault(Rule::Depth, b"trak", 64)),
+            (EIGHT, 0, Some(Ok(()))),
+            // A bad size comes before a box that is too deep, even if that is earlier.
+            (BOTH, 0, fault(Rule::BadSize, b"free", 72)),
+            // At depth 9 the header must still be good.
+            (CUT, 0, no_header(64)),
+        ],
+    )
 }
 
 #[test]
 fn bad_children(rt: HostRuntime) -> Result<(), Fail> {
     // A child that passes its parent's end, a size 0, a size without room, a header that is cut.
-    let bytes = b"\0\0\0\x10moof\0\0\0\x09mfhd";
-    check(&rt, bytes, 364, fault(Rule::BadSize, b"mfhd", 372))?;
-    let bytes = b"\0\0\0\x10moof\0\0\0\0mfhd";
-    check(&rt, bytes, 364, fault(Rule::BadSize, b"mfhd", 372))?;
-    let bytes = b"\0\0\0\x10moof\0\0\0\x07mfhd";
-    check(&rt, bytes, 364, fault(Rule::BadSize, b"mfhd", 372))?;
-    let bytes = b"\0\0\0\x10moof\0\0\0\x18uuid";
-    check(&rt, bytes, 364, fault(Rule::BadSize, b"uuid", 372))?;
-    let none = Fault {
-        rule: Rule::BadSize,
-        kind: None,
-        offset: 380,
-    };
-    let bytes = b"\0\0\0\x17moof\0\0\0\x08free\0\0\0\x08fre";
-    check(&rt, bytes, 364, Some(Err(none)))?;
-    Ok(())
+    const PAST: &[u8] = b"\0\0\0\x10moof\0\0\0\x09mfhd";
+    const ZERO: &[u8] = b"\0\0\0\x10moof\0\0\0\0mfhd";
+    const SEVEN: &[u8] = b"\0\0\0\x10moof\0\0\0\x07mfhd";
+    const USER: &[u8] = b"\0\0\0\x10moof\0\0\0\x18uuid";
+    const CUT: &[u8] = b"\0\0\0\x17moof\0\0\0\x08free\0\0\0\x08fre";
+    check(
+        &rt,
+        &[
+            (PAST, 364, fault(Rule::BadSize, b"mfhd", 372)),
+            (ZERO, 364, fault(Rule::BadSize, b"mfhd", 372)),
+            (SEVEN, 364, fault(Rule::BadSize, b"mfhd", 372)),
+            (USER, 364, fault(Rule::BadSize, b"uuid", 372)),
+            (CUT, 364, no_header(380)),
+        ],
+    )
 }
 
 #[test]
 fn good_children(rt: HostRuntime) -> Result<(), Fail> {
-    // A child with a 64-bit size.
-    let bytes = b"\0\0\0\x18moof\0\0\0\x01free\0\0\0\0\0\0\0\x10";
-    check(&rt, bytes, 0, Some(Ok(())))?;
-    // A leaf's payload is no tree, whatever it looks like.
-    let bytes = b"\0\0\0\x18moov\0\0\0\x10udta\0\0\0\x07trak";
-    check(&rt, bytes, 0, Some(Ok(())))?;
-    // A container is read where it may not be, too.
-    let bytes = b"\0\0\0\x18moov\0\0\0\x10traf\0\0\0\x07free";
-    check(&rt, bytes, 0, fault(Rule::BadSize, b"free", 16))?;
-    Ok(())
+    const LONG: &[u8] = b"\0\0\0\x18moof\0\0\0\x01free\0\0\0\0\0\0\0\x10";
+    const LEAF: &[u8] = b"\0\0\0\x18moov\0\0\0\x10udta\0\0\0\x07trak";
+    const TRAF: &[u8] = b"\0\0\0\x18moov\0\0\0\x10traf\0\0\0\x07free";
+    check(
+        &rt,
+        &[
+            // A child with a 64-bit size.
+            (LONG, 0, Some(Ok(()))),
+            // A leaf's payload is no tree, whatever it looks like.
+            (LEAF, 0, Some(Ok(()))),
+            // A container is read where it may not be, too.
+            (TRAF, 0, fault(Rule::BadSize, b"free", 16)),
+        ],
+    )
 }
 
 #[test]
@@ -137,28 +146,29 @@ fn containers(rt: HostRuntime) -> Result<(), Fail> {
         b"moov", b"trak", b"edts", b"mdia", b"minf", b"dinf", b"stbl", b"mvex", b"moof", b"traf",
     ] {
         bytes[12..16].copy_from_slice(kind);
-        check(&rt, &bytes, 0, fault(Rule::BadSize, b"free", 16))?;
+        check(&rt, &[(&bytes, 0, fault(Rule::BadSize, b"free", 16))])?;
     }
     for kind in [
         b"udta", b"meta", b"dref", b"stsd", b"mfra", b"mdat", b"free", b"trax",
     ] {
         bytes[12..16].copy_from_slice(kind);
-        check(&rt, &bytes, 0, Some(Ok(())))?;
+        check(&rt, &[(&bytes, 0, Some(Ok(())))])?;
     }
     Ok(())
 }
 
 #[test]
 fn a_whole_moov(rt: HostRuntime) -> Result<(), Fail> {
-    let v1 = V1.as_slice();
-    let moov = &v1[V1_MOOV..V1_MOOF];
-    check(&rt, moov, 20, Some(Ok(())))?;
     // The trex at 332 with a size of 33 in place of 32.
     let mut bytes = *V1;
     bytes[335] = 33;
-    let moov = &bytes[20..364];
-    check(&rt, moov, 20, fault(Rule::BadSize, b"trex", 332))?;
-    Ok(())
+    check(
+        &rt,
+        &[
+            (&V1.as_slice()[V1_MOOV..V1_MOOF], 20, Some(Ok(()))),
+            (&bytes[20..364], 20, fault(Rule::BadSize, b"trex", 332)),
+        ],
+    )
 }
 
 /// How many children of this type the box has: what a loop over a box's children promises with an invariant

@@ -44,7 +44,33 @@ fn outcome(
     }
 }
 
-/// Result of reading a moof at 364, of which these are the boxes of its only traf, with V1's track.
+/// Checks the fault of a moof that begins at 364, with V1's track: how many rows are counted.
+fn check_moof(
+    rt: &impl Abort,
+    alloc: Global,
+    moof: &[u8],
+    expected: Option<Fault>,
+) -> Result<u128, Fail> {
+    let moov = &V1.as_slice()[V1_MOOV..V1_MOOF];
+    let (fault, rows) = outcome(alloc, moov, moof, 364)?;
+    assert_eq!(rt; fault, expected, "{moof:?}");
+    Ok(rows)
+}
+
+/// The same of moofs of these boxes after their mfhd.
+fn check_boxes(
+    rt: &impl Abort,
+    alloc: Global,
+    rows: &[(&[&[u8]], Option<Fault>)],
+) -> Result<(), Fail> {
+    for (boxes, expected) in rows {
+        let moof = moof_of(alloc, boxes)?;
+        check_moof(rt, alloc, moof.as_slice(), *expected)?;
+    }
+    Ok(())
+}
+
+/// The same of moofs with one traf of these boxes.
 fn check_trafs(
     rt: &impl Abort,
     alloc: Global,
@@ -52,18 +78,12 @@ fn check_trafs(
 ) -> Result<(), Fail> {
     for (boxes, expected) in rows {
         let moof = one_traf(alloc, boxes)?;
-        let (fault, _) = outcome(
-            alloc,
-            &V1.as_slice()[V1_MOOV..V1_MOOF],
-            moof.as_slice(),
-            364,
-        )?;
-        assert_eq!(rt; fault, *expected, "{boxes:?}");
+        check_moof(rt, alloc, moof.as_slice(), *expected)?;
     }
     Ok(())
 }
 
-/// The same by its trafs, each by its boxes.
+/// The same of moofs with these trafs, each by its boxes.
 fn check_moofs(
     rt: &impl Abort,
     alloc: Global,
@@ -75,13 +95,7 @@ fn check_moofs(
             push_box(&mut content, b"traf", boxes)?;
         }
         let moof = moof_of(alloc, &[content.as_slice()])?;
-        let (fault, _) = outcome(
-            alloc,
-            &V1.as_slice()[V1_MOOV..V1_MOOF],
-            moof.as_slice(),
-            364,
-        )?;
-        assert_eq!(rt; fault, *expected, "{trafs:?}");
+        check_moof(rt, alloc, moof.as_slice(), *expected)?;
     }
     Ok(())
 }
@@ -114,24 +128,14 @@ fn boxes_are_missing_or_twice(rt: HostRuntime) -> Result<(), Fail> {
             ),
         ],
     )?;
-    let mut no_mfhd = Vec::new(rt.alloc());
-    push_box(&mut no_mfhd, b"moof", &[])?;
-    let (fault_of, rows) = outcome(
+    check_boxes(
+        &rt,
         rt.alloc(),
-        &V1.as_slice()[V1_MOOV..V1_MOOF],
-        no_mfhd.as_slice(),
-        364,
+        &[(&[MFHD], fault(Rule::Twice, b"mfhd", 388))],
     )?;
-    assert_eq!(rt; fault_of, fault(Rule::Missing, b"moof", 364));
+    let no_mfhd = b"\0\0\0\x08moof";
+    let rows = check_moof(&rt, rt.alloc(), no_mfhd, fault(Rule::Missing, b"moof", 364))?;
     assert_eq!(rt; rows, 0);
-    let two = moof_of(rt.alloc(), &[MFHD])?;
-    let (fault_of, _) = outcome(
-        rt.alloc(),
-        &V1.as_slice()[V1_MOOV..V1_MOOF],
-        two.as_slice(),
-        364,
-    )?;
-    assert_eq!(rt; fault_of, fault(Rule::Twice, b"mfhd", 388));
     Ok(())
 }
 
@@ -180,15 +184,11 @@ fn boxes_are_unsupported(rt: HostRuntime) -> Result<(), Fail> {
         ],
     )?;
     // A trun that is in no traf isn't read.
-    let moof = moof_of(rt.alloc(), &[SHORT_TRUN])?;
-    let (fault_of, _) = outcome(
+    check_boxes(
+        &rt,
         rt.alloc(),
-        &V1.as_slice()[V1_MOOV..V1_MOOF],
-        moof.as_slice(),
-        364,
-    )?;
-    assert_eq!(rt; fault_of, fault(Rule::Unsupported, b"trun", 388));
-    Ok(())
+        &[(&[SHORT_TRUN], fault(Rule::Unsupported, b"trun", 388))],
+    )
 }
 
 #[test]
@@ -204,13 +204,7 @@ fn trafs_are_nested(rt: HostRuntime) -> Result<(), Fail> {
         }
         let mut moof = Vec::new(rt.alloc());
         push_box(&mut moof, b"moof", &[inner.as_slice()])?;
-        let (fault_of, _) = outcome(
-            rt.alloc(),
-            &V1.as_slice()[V1_MOOV..V1_MOOF],
-            moof.as_slice(),
-            364,
-        )?;
-        assert_eq!(rt; fault_of, expected);
+        check_moof(&rt, rt.alloc(), moof.as_slice(), expected)?;
     }
     Ok(())
 }
@@ -354,11 +348,11 @@ fn times_pass_64_bits(rt: HostRuntime) -> Result<(), Fail> {
     )?;
     // Its samples are counted all the same.
     let moof = one_traf(rt.alloc(), &[TFHD, PAST, TRUN])?;
-    let (_, rows) = outcome(
+    let rows = check_moof(
+        &rt,
         rt.alloc(),
-        &V1.as_slice()[V1_MOOV..V1_MOOF],
         moof.as_slice(),
-        364,
+        fault(Rule::TimeRange, b"trun", 432),
     )?;
     assert_eq!(rt; rows, 3);
     Ok(())

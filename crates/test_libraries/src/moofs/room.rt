@@ -82,6 +82,19 @@ fn check(
     Ok(())
 }
 
+/// The same of moofs with one traf of these boxes and so many samples.
+fn check_trafs(
+    rt: &impl Abort,
+    alloc: Global,
+    rows: &[(&[&[u8]], u128, &[Case])],
+) -> Result<(), Fail> {
+    for (boxes, samples, cases) in rows {
+        let moof = one_traf(alloc, boxes)?;
+        check(rt, alloc, moof.as_slice(), *samples, cases)?;
+    }
+    Ok(())
+}
+
 fn index_range(offset: u64) -> Result<u64, Option<Fault>> {
     Err(fault(Rule::IndexRange, b"trun", offset))
 }
@@ -103,31 +116,31 @@ fn words_of(alloc: Global, kind: &[u8; 4], words: &[u32]) -> Result<Vec<u8>, Fai
 
 #[test]
 fn numbers_have_an_end(rt: HostRuntime) -> Result<(), Fail> {
-    let moof = one_traf(rt.alloc(), &[TFHD, TFDT, TRUN])?;
-    check(
-        &rt,
-        rt.alloc(),
-        moof.as_slice(),
-        3,
-        &[
-            ((9, false), 1, Ok(2)),
-            ((2, true), 1, Ok(3)),
-            ((9, false), 4_294_967_295, Ok(4_294_967_296)),
-            ((9, false), 4_294_967_296, sequence_end()),
-            ((2, false), 4_294_967_294, Ok(4_294_967_296)),
-            ((2, false), 4_294_967_295, sequence_end()),
-            ((1, true), 4_294_967_294, sequence_end()),
-        ],
-    )?;
     // A run without samples has no piece, and so no number.
     const NONE: &[u8] = b"\0\0\0\x14trun\0\0\x02\x01\0\0\0\0\x80\0\0\0";
-    let empty = one_traf(rt.alloc(), &[TFHD, TFDT, NONE])?;
-    check(
+    check_trafs(
         &rt,
         rt.alloc(),
-        empty.as_slice(),
-        0,
-        &[((1, true), 4_294_967_296, Ok(4_294_967_296))],
+        &[
+            (
+                &[TFHD, TFDT, TRUN],
+                3,
+                &[
+                    ((9, false), 1, Ok(2)),
+                    ((2, true), 1, Ok(3)),
+                    ((9, false), 4_294_967_295, Ok(4_294_967_296)),
+                    ((9, false), 4_294_967_296, sequence_end()),
+                    ((2, false), 4_294_967_294, Ok(4_294_967_296)),
+                    ((2, false), 4_294_967_295, sequence_end()),
+                    ((1, true), 4_294_967_294, sequence_end()),
+                ],
+            ),
+            (
+                &[TFHD, TFDT, NONE],
+                0,
+                &[((1, true), 4_294_967_296, Ok(4_294_967_296))],
+            ),
+        ],
     )
 }
 
@@ -142,86 +155,75 @@ fn runs_are_counted_together(rt: HostRuntime) -> Result<(), Fail> {
 
 #[test]
 fn groups_begin_in_time(rt: HostRuntime) -> Result<(), Fail> {
-    let alloc = rt.alloc();
     // Version 1, offsets of -512, 0 and 0.
-    let early = words_of(alloc, b"trun", &[0x0100_0801, 3, 104, 0xffff_fe00, 0, 0])?;
-    let moof = one_traf(alloc, &[TFHD, TFDT, early.as_slice()])?;
-    check(
-        &rt,
-        alloc,
-        moof.as_slice(),
-        3,
-        &[
-            ((2, true), 1, index_range(428)),
-            ((2, false), 1, Ok(3)),
-            // The lower rule is reported.
-            ((1, true), 4_294_967_295, index_range(428)),
-        ],
-    )?;
-    // Only the first piece of a group is checked.
-    let second = words_of(alloc, b"trun", &[0x0100_0801, 3, 104, 0, 0xffff_f000, 0])?;
-    let moof = one_traf(alloc, &[TFHD, TFDT, second.as_slice()])?;
-    check(
-        &rt,
-        alloc,
-        moof.as_slice(),
-        3,
-        &[((1, true), 1, Ok(4)), ((2, true), 1, index_range(428))],
-    )?;
+    const EARLY: &[u8] = b"\0\0\0\x20trun\x01\0\x08\x01\0\0\0\x03\0\0\0\x68\
+        \xff\xff\xfe\0\0\0\0\0\0\0\0\0";
+    // Offsets of 0, -4096 and 0.
+    const SECOND: &[u8] = b"\0\0\0\x20trun\x01\0\x08\x01\0\0\0\x03\0\0\0\x68\
+        \0\0\0\0\xff\xff\xf0\0\0\0\0\0";
     // Time 2^64 - 3073, and offsets that lead to 2^64 - 1 and past it.
-    let late = words_of(alloc, b"tfdt", &[0x0100_0000, 0xffff_ffff, 0xffff_f3ff])?;
-    let most = words_of(alloc, b"trun", &[0x0801, 1, 104, 3072])?;
-    let past = words_of(alloc, b"trun", &[0x0801, 1, 104, 3073])?;
-    let moof = one_traf(alloc, &[TFHD, late.as_slice(), most.as_slice()])?;
-    check(&rt, alloc, moof.as_slice(), 1, &[((1, true), 1, Ok(2))])?;
-    let moof = one_traf(alloc, &[TFHD, late.as_slice(), past.as_slice()])?;
-    check(
+    const LATE: &[u8] = b"\0\0\0\x14tfdt\x01\0\0\0\xff\xff\xff\xff\xff\xff\xf3\xff";
+    const MOST: &[u8] = b"\0\0\0\x18trun\0\0\x08\x01\0\0\0\x01\0\0\0\x68\0\0\x0c\0";
+    const PAST: &[u8] = b"\0\0\0\x18trun\0\0\x08\x01\0\0\0\x01\0\0\0\x68\0\0\x0c\x01";
+    check_trafs(
         &rt,
-        alloc,
-        moof.as_slice(),
-        1,
-        &[((1, true), 1, index_range(432))],
+        rt.alloc(),
+        &[
+            (
+                &[TFHD, TFDT, EARLY],
+                3,
+                &[
+                    ((2, true), 1, index_range(428)),
+                    ((2, false), 1, Ok(3)),
+                    // The lower rule is reported.
+                    ((1, true), 4_294_967_295, index_range(428)),
+                ],
+            ),
+            // Only the first piece of a group is checked.
+            (
+                &[TFHD, TFDT, SECOND],
+                3,
+                &[((1, true), 1, Ok(4)), ((2, true), 1, index_range(428))],
+            ),
+            (&[TFHD, LATE, MOST], 1, &[((1, true), 1, Ok(2))]),
+            (&[TFHD, LATE, PAST], 1, &[((1, true), 1, index_range(432))]),
+        ],
     )
 }
 
 #[test]
 fn references_have_room(rt: HostRuntime) -> Result<(), Fail> {
-    let alloc = rt.alloc();
     // A duration of 2^32 - 1 for each sample.
-    let long = words_of(alloc, b"tfhd", &[0x0002_0008, 1, 0xffff_ffff])?;
-    let moof = one_traf(alloc, &[long.as_slice(), TFDT, TRUN])?;
-    check(
-        &rt,
-        alloc,
-        moof.as_slice(),
-        3,
-        &[
-            ((1, true), 1, Ok(4)),
-            ((2, true), 1, index_range(432)),
-            ((2, false), 1, Ok(3)),
-        ],
-    )?;
+    const LONG: &[u8] = b"\0\0\0\x14tfhd\0\x02\0\x08\0\0\0\x01\xff\xff\xff\xff";
     // A moof of 108 bytes, a header of 8, and the bytes that make it 2^31 - 1, or one more.
-    let most = words_of(alloc, b"trun", &[0x0201, 1, 104, 2_147_483_531])?;
-    let past = words_of(alloc, b"trun", &[0x0201, 1, 104, 2_147_483_532])?;
-    let moof = one_traf(alloc, &[TFHD, TFDT, most.as_slice()])?;
-    check(&rt, alloc, moof.as_slice(), 1, &[((1, true), 1, Ok(2))])?;
-    let moof = one_traf(alloc, &[TFHD, TFDT, past.as_slice()])?;
-    check(
+    const MOST: &[u8] = b"\0\0\0\x18trun\0\0\x02\x01\0\0\0\x01\0\0\0\x68\x7f\xff\xff\x8b";
+    const PAST: &[u8] = b"\0\0\0\x18trun\0\0\x02\x01\0\0\0\x01\0\0\0\x68\x7f\xff\xff\x8c";
+    check_trafs(
         &rt,
-        alloc,
-        moof.as_slice(),
-        1,
-        &[((1, true), 1, index_range(428)), ((1, false), 1, Ok(2))],
-    )?;
-    // Of two runs at fault the first is named.
-    let moof = one_traf(alloc, &[TFHD, TFDT, TRUN, past.as_slice(), past.as_slice()])?;
-    check(
-        &rt,
-        alloc,
-        moof.as_slice(),
-        5,
-        &[((9, true), 1, index_range(460))],
+        rt.alloc(),
+        &[
+            (
+                &[LONG, TFDT, TRUN],
+                3,
+                &[
+                    ((1, true), 1, Ok(4)),
+                    ((2, true), 1, index_range(432)),
+                    ((2, false), 1, Ok(3)),
+                ],
+            ),
+            (&[TFHD, TFDT, MOST], 1, &[((1, true), 1, Ok(2))]),
+            (
+                &[TFHD, TFDT, PAST],
+                1,
+                &[((1, true), 1, index_range(428)), ((1, false), 1, Ok(2))],
+            ),
+            // Of two runs at fault the first is named.
+            (
+                &[TFHD, TFDT, TRUN, PAST, PAST],
+                5,
+                &[((9, true), 1, index_range(460))],
+            ),
+        ],
     )
 }
 

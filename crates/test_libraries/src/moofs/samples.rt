@@ -120,21 +120,26 @@ fn read(
     Ok((samples, ends))
 }
 
-/// The same, with the tracks of a moov that begins at 20.
-fn outcome(
-    alloc: Global,
-    moov: &[u8],
-    moof: &[u8],
+/// A moof with the moov before it, which begins at 20, and what it comes to.
+#[derive(Clone, Copy)]
+struct Worked<'a> {
+    moov: &'a [u8],
+    moof: &'a [u8],
     at: u32,
-) -> Result<(Vec<Sample>, Vec<u64>), Fail> {
-    if moov.len() > 16_777_216 || !is_box(moov) {
+    samples: &'a [Sample],
+    ends: &'a [u64],
+}
+
+/// The samples and ends of the moof, with the tracks of its moov.
+fn outcome(alloc: Global, worked: &Worked<'_>) -> Result<(Vec<Sample>, Vec<u64>), Fail> {
+    if worked.moov.len() > 16_777_216 || !is_box(worked.moov) {
         return Err("no box".into());
     }
     let mut ledger = Ledger::new(alloc, 1 << 30);
-    match tracks(&mut ledger, moov, 20) {
+    match tracks(&mut ledger, worked.moov, 20) {
         Ok(list) => {
             let mut list = list;
-            let outcome = read(alloc, &mut list, moof, at);
+            let outcome = read(alloc, &mut list, worked.moof, worked.at);
             list.back(&mut ledger);
             outcome
         }
@@ -142,61 +147,75 @@ fn outcome(
     }
 }
 
-/// Result of reading a moof at 364, of which these are the boxes of its only traf, with V1's track.
+fn check(rt: &impl Abort, alloc: Global, worked: &Worked<'_>) -> Result<(), Fail> {
+    let (samples, ends) = outcome(alloc, worked)?;
+    assert_eq!(rt;
+        (samples.as_slice(), ends.as_slice()),
+        (worked.samples, worked.ends),
+        "{:?}",
+        worked.moof
+    );
+    Ok(())
+}
+
+/// Checks a moof at 364, of which these are the boxes of its only traf, with V1's track.
 fn check_traf(
     rt: &impl Abort,
     alloc: Global,
     boxes: &[&[u8]],
-    expected: &[Sample],
+    samples: &[Sample],
     end: u64,
 ) -> Result<(), Fail> {
     let moof = one_traf(alloc, boxes)?;
-    let (samples, ends) = outcome(
-        alloc,
-        &V1.as_slice()[V1_MOOV..V1_MOOF],
-        moof.as_slice(),
-        364,
-    )?;
-    assert_eq!(rt; samples.as_slice(), expected, "{boxes:?}");
-    assert_eq!(rt; ends.as_slice(), &[end][..]);
-    Ok(())
+    let worked = Worked {
+        moov: &V1.as_slice()[V1_MOOV..V1_MOOF],
+        moof: moof.as_slice(),
+        at: 364,
+        samples,
+        ends: &[end],
+    };
+    check(rt, alloc, &worked)
 }
 
 #[test]
 fn vectors_have_these_samples(rt: HostRuntime) -> Result<(), Fail> {
-    let v1 = V1.as_slice();
-    let (samples, ends) = outcome(
-        rt.alloc(),
-        &v1[V1_MOOV..V1_MOOF],
-        &v1[V1_MOOF..V1_MDAT],
-        364,
-    )?;
-    let first = [of_1(0, 5, 468), of_1(1024, 7, 473), of_1(2048, 3, 480)];
-    assert_eq!(rt; samples.as_slice(), &first[..]);
-    assert_eq!(rt; ends.as_slice(), &[3072][..]);
-
-    let v2 = V2.as_slice();
-    let (samples, ends) = outcome(rt.alloc(), &v2[20..584], &v2[584..748], 584)?;
-    let both = [
-        of_1(0, 5, 756),
-        of_1(1024, 7, 761),
-        of_1(2048, 3, 768),
-        of_2(0, 4, 771),
-        of_2(1024, 4, 775),
-    ];
-    assert_eq!(rt; samples.as_slice(), &both[..]);
-    assert_eq!(rt; ends.as_slice(), &[3072, 2048][..]);
-
-    let v3 = V3.as_slice();
-    let (samples, ends) = outcome(rt.alloc(), &v3[20..584], &v3[584..784], 584)?;
-    let listed = [
-        of_1(0, 5, 792),
-        of_1(1024, 7, 801),
-        of_2(0, 4, 797),
-        of_2(1024, 4, 808),
-    ];
-    assert_eq!(rt; samples.as_slice(), &listed[..]);
-    assert_eq!(rt; ends.as_slice(), &[2048, 2048][..]);
+    let (v1, v2, v3) = (V1.as_slice(), V2.as_slice(), V3.as_slice());
+    for worked in [
+        Worked {
+            moov: &v1[V1_MOOV..V1_MOOF],
+            moof: &v1[V1_MOOF..V1_MDAT],
+            at: 364,
+            samples: &[of_1(0, 5, 468), of_1(1024, 7, 473), of_1(2048, 3, 480)],
+            ends: &[3072],
+        },
+        Worked {
+            moov: &v2[20..584],
+            moof: &v2[584..748],
+            at: 584,
+            samples: &[
+                of_1(0, 5, 756),
+                of_1(1024, 7, 761),
+                of_1(2048, 3, 768),
+                of_2(0, 4, 771),
+                of_2(1024, 4, 775),
+            ],
+            ends: &[3072, 2048],
+        },
+        Worked {
+            moov: &v3[20..584],
+            moof: &v3[584..784],
+            at: 584,
+            samples: &[
+                of_1(0, 5, 792),
+                of_1(1024, 7, 801),
+                of_2(0, 4, 797),
+                of_2(1024, 4, 808),
+            ],
+            ends: &[2048, 2048],
+        },
+    ] {
+        check(&rt, rt.alloc(), &worked)?;
+    }
     Ok(())
 }
 
@@ -375,21 +394,19 @@ fn times_begin_with_the_tfdt_or_follow(rt: HostRuntime) -> Result<(), Fail> {
     push_box(&mut trafs, b"traf", &[TFHD, AT_9000, ONE])?;
     push_box(&mut trafs, b"traf", &[TFHD, TFDT, TRUN])?;
     let moof = moof_of(rt.alloc(), &[trafs.as_slice()])?;
-    let (samples, ends) = outcome(
-        rt.alloc(),
-        &V1.as_slice()[V1_MOOV..V1_MOOF],
-        moof.as_slice(),
-        364,
-    )?;
-    let both = [
-        of_1(9000, 0, 468),
-        of_1(0, 5, 468),
-        of_1(1024, 7, 473),
-        of_1(2048, 3, 480),
-    ];
-    assert_eq!(rt; samples.as_slice(), &both[..]);
-    assert_eq!(rt; ends.as_slice(), &[3072][..]);
-    Ok(())
+    let worked = Worked {
+        moov: &V1.as_slice()[V1_MOOV..V1_MOOF],
+        moof: moof.as_slice(),
+        at: 364,
+        samples: &[
+            of_1(9000, 0, 468),
+            of_1(0, 5, 468),
+            of_1(1024, 7, 473),
+            of_1(2048, 3, 480),
+        ],
+        ends: &[3072],
+    };
+    check(&rt, rt.alloc(), &worked)
 }
 
 #[test]
