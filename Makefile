@@ -52,9 +52,10 @@ test:
 	    scripts/counted scripts/words && scripts/counted scripts/check_edits && \
 	    scripts/counted scripts/pictures --check crates states in_place inputs; fi
 	@echo "proving everything from nothing and running the tests: one to three hours on 4 cores" >&2
-	@scripts/counted scripts/prove_all
 	@if command -v cc > /dev/null; then \
-	    scripts/counted scripts/refused_allocations && JOBS=1 scripts/lib && scripts/counted c/tests/short_tests; fi
+	    scripts/lib_beside scripts/counted scripts/prove_all && \
+	    scripts/counted scripts/refused_allocations && scripts/counted c/tests/short_tests; \
+	else scripts/counted scripts/prove_all; fi
 	@if command -v valgrind > /dev/null; then scripts/counted bench/instructions "as written" --room 3; fi
 	@scripts/left_out
 
